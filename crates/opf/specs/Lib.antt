@@ -1,0 +1,9 @@
+pub mod Faults
+pub mod Text
+pub mod LineEnds
+pub mod Fields
+pub mod Runs
+pub mod Numbers
+pub mod Quantities
+pub mod DataLines
+pub mod Files

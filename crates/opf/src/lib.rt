@@ -1,0 +1,6 @@
+// Reads an aircraft file in the layout of BADA 3.10 into the aircraft record, or names its first fault.
+pub mod number;
+mod scan;
+mod token;
+mod lines;
+mod fields;
