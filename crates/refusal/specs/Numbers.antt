@@ -72,5 +72,17 @@ layer-word layer.Value = codes "value"
 abbrev pub refusal-number : Refusal → ℕ
 refusal-number refusal.BenchPair = 11
 refusal-number refusal.TooHigh = 12
+refusal-number refusal.Grams = 13
+refusal-number refusal.ZeroFuel = 14
+refusal-number refusal.Phase = 15
+refusal-number refusal.State = 16
+refusal-number refusal.Altitude = 17
 refusal-number refusal.Speed = 18
+refusal-number refusal.Calibrated = 19
+refusal-number refusal.Seconds = 20
+refusal-number refusal.FlownSeconds = 21
+refusal-number refusal.Lift = 22
 refusal-number refusal.Flow = 23
+refusal-number refusal.Overweight = 24
+refusal-number refusal.FuelShort = 25
+refusal-number refusal.Script = 26
