@@ -1,2 +1,4 @@
 mod LineEnds
 mod Runs
+mod Counts
+mod Forms

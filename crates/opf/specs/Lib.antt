@@ -4,6 +4,7 @@ pub mod LineEnds
 pub mod Fields
 pub mod Runs
 pub mod Numbers
+pub mod Counts
 pub mod Quantities
 pub mod DataLines
 pub mod Files

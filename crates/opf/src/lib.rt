@@ -4,3 +4,4 @@ mod scan;
 mod token;
 mod lines;
 mod fields;
+mod numbers;
