@@ -2,3 +2,4 @@ mod LineEnds
 mod Runs
 mod Counts
 mod Forms
+mod Readings

@@ -1,6 +1,7 @@
 pub mod Faults
 pub mod Text
 pub mod LineEnds
+pub mod Lines
 pub mod Fields
 pub mod Runs
 pub mod Numbers

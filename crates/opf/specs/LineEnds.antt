@@ -19,6 +19,3 @@ abbrev pub without-cr : List ℕ → List ℕ
 without-cr [] = []
 without-cr (b ∷ []) = cond (eqb b 13) [] (b ∷ [])
 without-cr (b ∷ c ∷ s) = b ∷ without-cr (c ∷ s)
-
-abbrev pub unit : Unit {0}
-unit = tt

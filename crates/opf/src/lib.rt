@@ -5,3 +5,7 @@ mod token;
 mod lines;
 mod fields;
 mod numbers;
+mod line;
+mod data;
+mod quantities;
+mod reading;

@@ -82,7 +82,8 @@ fn times_ten(digits: u32, n: u32, high: u64) -> Option<u64>
     requires five { ⌜ digits < 100000 ⌝ }
     requires some { ⌜ 0 < digits ⌝ }
     requires most { ⌜ high ≤ 100000000000 ⌝ }
-    ensures { λ r. ⌜ r ≡ at-most high (fixed-point digits n 0) ⌝ }
+    ensures value { λ r. ⌜ r ≡ at-most high (fixed-point digits n 0) ⌝ }
+    ensures bound { λ r. ⌜ found r (λ v. v ≤ high) ⌝ }
 {
     if n > 11 {
         return None;
@@ -98,7 +99,8 @@ fn times_ten(digits: u32, n: u32, high: u64) -> Option<u64>
 fn over_ten(digits: u32, n: u32, high: u64) -> Option<u64>
     requires five { ⌜ digits < 100000 ⌝ }
     requires some { ⌜ 0 < digits ⌝ }
-    ensures { λ r. ⌜ r ≡ at-most high (fixed-point digits 0 n) ⌝ }
+    ensures value { λ r. ⌜ r ≡ at-most high (fixed-point digits 0 n) ⌝ }
+    ensures bound { λ r. ⌜ found r (λ v. v ≤ high) ⌝ }
 {
     if n > 5 {
         return None;
@@ -120,7 +122,8 @@ fn count(x: Number, decimals: u32, high: u64) -> Option<u64>
     requires small { ⌜ Small x ⌝ }
     requires few { ⌜ decimals ≤ 16 ⌝ }
     requires most { ⌜ high ≤ 100000000000 ⌝ }
-    ensures { λ r. ⌜ r ≡ at-most high (whole-count decimals x) ⌝ }
+    ensures value { λ r. ⌜ r ≡ at-most high (whole-count decimals x) ⌝ }
+    ensures bound { λ r. ⌜ found r (λ v. v ≤ high) ⌝ }
 {
     let up = raised(x, decimals);
     let down = lowered(x);
@@ -138,7 +141,8 @@ pub(crate) fn natural(x: Number, q: Quantity) -> Option<u64>
     requires small { ⌜ Small x ⌝ }
     requires few { ⌜ q .decimals ≤ 16 ⌝ }
     requires most { ⌜ q .high ≤ 100000000000 ⌝ }
-    ensures { λ r. ⌜ r ≡ natural-in q x ⌝ }
+    ensures value { λ r. ⌜ r ≡ natural-in q x ⌝ }
+    ensures bound { λ r. ⌜ found r (λ v. v ≤ q .high) ⌝ }
 {
     let v = count(x, q.decimals, q.high)?;
     if v < q.low {

@@ -6,19 +6,19 @@ use Rattle.opf.proofs.numbers.over_ten.Needs as need
 
 pub returns-then-n-gt5 : need.returns-then-n-gt5
 returns-then-n-gt5 c =
-    lowered-past (c .args .digits) (c .args .n) (c .args .high) (c .pre .some) (c .pre .five) (c .if-n-gt5 .taken)
+    record { value = lowered-past (c .args .digits) (c .args .n) (c .args .high) (c .pre .some) (c .pre .five) (c .if-n-gt5 .taken); bound = tt }
 
 pub rem-d : need.rem-d
 rem-d c = omega (arith, ten-pos (c .args .n), c .pow-power .ensures)
 
 pub returns-then-d-power-ne0 : need.returns-then-d-power-ne0
 returns-then-d-power-ne0 c =
-    lowered-broken (c .args .digits) (c .args .n) (c .pow-power .result) (c .args .high) (c .pow-power .ensures) (c .if-d-power-ne0 .taken)
+    record { value = lowered-broken (c .args .digits) (c .args .n) (c .pow-power .result) (c .args .high) (c .pow-power .ensures) (c .if-d-power-ne0 .taken); bound = tt }
 
 pub returns-then-v-high : need.returns-then-v-high
 returns-then-v-high c =
-    lowered-over (c .args .digits) (c .args .n) (c .pow-power .result) (c .args .high) (c .pow-power .ensures) (c .if-d-power-ne0 .left) (c .if-v-high .taken)
+    record { value = lowered-over (c .args .digits) (c .args .n) (c .pow-power .result) (c .args .high) (c .pow-power .ensures) (c .if-d-power-ne0 .left) (c .if-v-high .taken); bound = tt }
 
 pub returns : need.returns
 returns c =
-    lowered-kept (c .args .digits) (c .args .n) (c .pow-power .result) (c .args .high) (c .pow-power .ensures) (c .if-d-power-ne0 .left) (c .if-v-high .left)
+    record { value = lowered-kept (c .args .digits) (c .args .n) (c .pow-power .result) (c .args .high) (c .pow-power .ensures) (c .if-d-power-ne0 .left) (c .if-v-high .left); bound = c .if-v-high .left }

@@ -11,7 +11,7 @@ use Rattle.opf.proofs.numbers.signed.Needs as need
 
 pub returns-in-Break-v : need.returns-in-Break-v
 unfolding signed-in
-returns-in-Break-v c = rw (c .from-residual .ensures) (signed-none (c .args .q) (c .args .x .negative) _ (c .in-Break-v .ensures tt))
+returns-in-Break-v c = rw (c .from-residual .ensures) (signed-none (c .args .q) (c .args .x .negative) _ (c .in-Break-v .ensures tt .value))
 
 pub returns : need.returns
 unfolding signed-in
@@ -19,4 +19,4 @@ returns c =
     let fits : SFits w64 (c .with-sign .result) = search needs in
     rw (toZ-ofZ w64 (c .with-sign .result) fits)
     (ap Some (c .with-sign .ensures)
-    ∙ signed-some (c .args .q) (c .args .x .negative) (c .in-Continue-v .v) _ (c .in-Continue-v .ensures tt))
+    ∙ signed-some (c .args .q) (c .args .x .negative) (c .in-Continue-v .v) _ (c .in-Continue-v .ensures tt .value))
