@@ -8,4 +8,5 @@ pub mod Numbers
 pub mod Counts
 pub mod Quantities
 pub mod DataLines
+pub mod Steps
 pub mod Files

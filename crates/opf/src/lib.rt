@@ -9,3 +9,4 @@ mod line;
 mod data;
 mod quantities;
 mod reading;
+mod take;
