@@ -3,3 +3,5 @@ mod Runs
 mod Counts
 mod Forms
 mod Readings
+mod Drafts
+mod Files

@@ -10,3 +10,4 @@ pub mod Quantities
 pub mod DataLines
 pub mod Steps
 pub mod Files
+pub mod Progress

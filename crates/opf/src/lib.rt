@@ -10,3 +10,6 @@ mod data;
 mod quantities;
 mod reading;
 mod take;
+mod progress;
+mod data_line;
+mod file;
