@@ -5,3 +5,4 @@ mod Forms
 mod Readings
 mod Drafts
 mod Files
+mod Rows

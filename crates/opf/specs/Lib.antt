@@ -11,3 +11,5 @@ pub mod DataLines
 pub mod Steps
 pub mod Files
 pub mod Progress
+pub mod Records
+pub mod Printed

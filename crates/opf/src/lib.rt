@@ -1,5 +1,5 @@
 // Reads an aircraft file in the layout of BADA 3.10 into the aircraft record, or names its first fault.
-pub mod number;
+mod number;
 mod scan;
 mod token;
 mod lines;
@@ -13,3 +13,4 @@ mod take;
 mod progress;
 mod data_line;
 mod file;
+mod finish;
