@@ -6,3 +6,4 @@ mod Readings
 mod Drafts
 mod Files
 mod Rows
+mod Accepted
