@@ -23,7 +23,7 @@ use Rattle.opf.specs.Numbers.{number-of, fixed-point, whole-count, raising, lo
 use Rattle.opf.specs.DataLines.{Fields, bound, number-fault, natural-fault, natural, signed-fault, integer}
 use Rattle.opf.specs.Printed.{Is-number, Prints, Prints-count}
 
-some-is-not-none : {X : Type 0} (x : X) → Some x ≡ None → ⊥
+pub some-is-not-none : {X : Type 0} (x : X) → Some x ≡ None → ⊥
 some-is-not-none x e = let z : _≡_ {A = ℕ} 0 1 = cc in omega arith
 
 -- a whole count is exactly the quotient

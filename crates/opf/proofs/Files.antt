@@ -43,7 +43,7 @@ blank-line [] h = refl
 blank-line (a ∷ []) h = refl
 blank-line (a ∷ b ∷ rest) h = cr-letters a b rest (eqb-true a 13 (and-parts (eqb a 13) (every (is-byte 13) (b ∷ rest)) h .0))
 
-blank-has-none : (ls : List (List ℕ)) → blank ls ≡ true → data-lines ls ≡ []
+pub blank-has-none : (ls : List (List ℕ)) → blank ls ≡ true → data-lines ls ≡ []
 blank-has-none [] h = refl
 blank-has-none (l ∷ ls) h =
     let p = and-parts (every (is-byte 13) l) (blank ls) h in

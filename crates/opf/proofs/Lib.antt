@@ -7,3 +7,4 @@ mod Drafts
 mod Files
 mod Rows
 mod Accepted
+mod Judged
