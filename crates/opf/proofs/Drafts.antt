@@ -74,7 +74,7 @@ thrust-more (x ∷ ds) fs k e = at-line (thrust-of (engine-of x)) (x ∷ ds) fs 
 
 -- The configuration that a word names.
 
-first-is : {X : Type 0} (word : X → List ℕ) (xs : List X) (s : List ℕ) (x : X) → first-named word xs s ≡ Some x → s ≡ word x
+pub first-is : {X : Type 0} (word : X → List ℕ) (xs : List X) (s : List ℕ) (x : X) → first-named word xs s ≡ Some x → s ≡ word x
 first-is word [] s x e = absurd (let z : _≡_ {A = ℕ} 0 1 = cc in omega arith)
 first-is word (y ∷ xs) s x e =
     ⊎-elim
@@ -82,12 +82,12 @@ first-is word (y ∷ xs) s x e =
     (λ f. first-is word xs s x (rw f at e))
     (cases-bool (sameBytes s (word y)))
 
-names-are : (fs : Fields) (c d : Configuration) → configuration-of fs ≡ Some c → names d fs ≡ sameBytes (configuration-word c) (configuration-word d)
+pub names-are : (fs : Fields) (c d : Configuration) → configuration-of fs ≡ Some c → names d fs ≡ sameBytes (configuration-word c) (configuration-word d)
 names-are fs c d e = ap (λ (s : List ℕ). sameBytes s (configuration-word d)) (first-is configuration-word (flaps.Cruise ∷ flaps.InitialClimb ∷ flaps.TakeOff ∷ flaps.Approach ∷ flaps.Landing ∷ []) (field fs 2) c e)
 
 -- The rows one line further.
 
-naming-more : (c : Configuration) (xs : List Fields) (fs : Fields) → isSome (line-naming c xs) ≡ false → line-naming c (xs ++ (fs ∷ [])) ≡ cond (names c fs) (Some fs) None
+pub naming-more : (c : Configuration) (xs : List Fields) (fs : Fields) → isSome (line-naming c xs) ≡ false → line-naming c (xs ++ (fs ∷ [])) ≡ cond (names c fs) (Some fs) None
 naming-more c [] fs h = refl
 naming-more c (x ∷ xs) fs h =
     ⊎-elim
@@ -95,7 +95,7 @@ naming-more c (x ∷ xs) fs h =
     (λ f. rw f (naming-more c xs fs (rw f at h)))
     (cases-bool (names c x))
 
-naming-same : (c : Configuration) (xs : List Fields) (fs : Fields) → names c fs ≡ false → line-naming c (xs ++ (fs ∷ [])) ≡ line-naming c xs
+pub naming-same : (c : Configuration) (xs : List Fields) (fs : Fields) → names c fs ≡ false → line-naming c (xs ++ (fs ∷ [])) ≡ line-naming c xs
 naming-same c [] fs h = rw h
 naming-same c (x ∷ xs) fs h = ap (λ (o : Option Fields). cond (names c x) (Some x) o) (naming-same c xs fs h)
 
@@ -187,7 +187,7 @@ new-named n f (Some c) e =
 -- The record one line further.
 
 -- the faults of a line at a configuration's place
-faults-inside : (k n : ℕ) (e : EngineType) (f : Configuration → Bool) (fs : Fields) → (leb 5 k && leb k 9) ≡ true → faults-at k n e f fs ≡ configuration-faults n f fs
+pub faults-inside : (k n : ℕ) (e : EngineType) (f : Configuration → Bool) (fs : Fields) → (leb 5 k && leb k 9) ≡ true → faults-at k n e f fs ≡ configuration-faults n f fs
 faults-inside k n e f fs t =
     let p = and-parts (leb 5 k) (leb k 9) t in
     let low : 5 ≤ k = leb-true 5 k (p .0) in

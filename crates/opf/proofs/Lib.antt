@@ -8,3 +8,4 @@ mod Files
 mod Rows
 mod Accepted
 mod Judged
+mod Configurations
