@@ -26,7 +26,7 @@ use Rattle.opf.proofs.Files.{blank-has-none}
 abbrev pub Clear : List Fields → Type 0
 Clear d = (k : ℕ) → k < length d → (n : ℕ) × (data-fault n (take k d) (getD d k []) ≡ None)
 
-test-holds : (b : Bool) (f : Fault) → unless b f ≡ None → b ≡ true
+pub test-holds : (b : Bool) (f : Fault) → unless b f ≡ None → b ≡ true
 test-holds true f e = refl
 test-holds false f e = absurd (some-is-not-none f e)
 

@@ -9,3 +9,4 @@ mod Rows
 mod Accepted
 mod Judged
 mod Configurations
+mod Complete

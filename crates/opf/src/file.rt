@@ -52,7 +52,7 @@ fn only_line_ends(rest: &[u8]) -> bool
 }
 
 // Reads the lines one by one, up to the end line.
-fn read_lines(text: &[u8]) -> Result<Draft, Fault>
+pub(crate) fn read_lines(text: &[u8]) -> Result<Draft, Fault>
     requires { ⌜ length (now text) ≤ 32768 ⌝ }
     ensures { λ r. ⌜ r ≡ judge (lines-fault 1 [] (lines (now (text .entry)))) (draft-of (data-lines (lines (now (text .entry))))) ⌝ }
 {

@@ -14,3 +14,4 @@ mod progress;
 mod data_line;
 mod file;
 mod finish;
+pub mod read;
