@@ -1,0 +1,1 @@
+// Exact rational numbers for specifications. No program computes with them.
