@@ -186,3 +186,178 @@ pub ÷-falls : {x y y′ : ℚ} → nat 0 ≤ℚ x → nat 0 <ℚ y → y ≤ℚ
 
 pub shrink : (k : ℕ) → 0 < k → (x : ℚ) → nat k *ℚ (x ÷ℚ nat k) ≈ x
 shrink k h x = ≈-trans (*-comm (nat k) (x ÷ℚ nat k)) (÷-* x (nat-< h))
+
+-- a factor that is not zero cancels
+pub *-cancel-≈ : {x z y : ℚ} → ¬ (nat 0 ≈ y) → x *ℚ y ≈ z *ℚ y → x ≈ z
+*-cancel-≈ {x} {z} {y} s e = ⊎-elim above (λ h. ⊎-elim below (λ k. absurd (s (≤-antisym k h))) (<-or-≥ y (nat 0))) (<-or-≥ (nat 0) y)
+  where
+    above : nat 0 <ℚ y → x ≈ z
+    above p = ≤-antisym (*-cancel y p (≈→≤ e)) (*-cancel y p (≈→≥ e))
+
+    turned : x *ℚ negℚ y ≈ z *ℚ negℚ y
+    turned = omega (arith, e .eq)
+
+    below : y <ℚ nat 0 → x ≈ z
+    below p = ≤-antisym (*-cancel (negℚ y) (record { lt = omega (arith, p .lt) }) (≈→≤ turned)) (*-cancel (negℚ y) (record { lt = omega (arith, p .lt) }) (≈→≥ turned))
+
+-- what times the divisor is the dividend is the quotient
+pub ÷-unique : {x y z : ℚ} → ¬ (nat 0 ≈ y) → z *ℚ y ≈ x → z ≈ x ÷ℚ y
+÷-unique {x} s h = *-cancel-≈ s (≈-trans h (≈-sym (÷-*-not-zero x s)))
+
+pub ÷-≈ : {x y x′ y′ : ℚ} → x ≈ x′ → y ≈ y′ → x ÷ℚ y ≈ x′ ÷ℚ y′
+÷-≈ {x} {y} {x′} {y′} h k = ⊎-elim none some (zero-or-not y)
+  where
+    none : nat 0 ≈ y → x ÷ℚ y ≈ x′ ÷ℚ y′
+    none z = ≈-trans (÷-zero x z) (≈-sym (÷-zero x′ (≈-trans z k)))
+
+    some : ¬ (nat 0 ≈ y) → x ÷ℚ y ≈ x′ ÷ℚ y′
+    some s = ÷-unique (λ z. s (≈-trans z (≈-sym k))) (≈-trans (*-≈ (≈-refl (x ÷ℚ y)) (≈-sym k)) (≈-trans (÷-*-not-zero x s) h))
+
+pub *-÷ : (x z y : ℚ) → x *ℚ (z ÷ℚ y) ≈ (x *ℚ z) ÷ℚ y
+*-÷ x z y = ⊎-elim none some (zero-or-not y)
+  where
+    none : nat 0 ≈ y → x *ℚ (z ÷ℚ y) ≈ (x *ℚ z) ÷ℚ y
+    none e = ≈-trans (*-≈ (≈-refl x) (÷-zero z e)) (≈-trans (*-zero x) (≈-sym (÷-zero (x *ℚ z) e)))
+
+    some : ¬ (nat 0 ≈ y) → x *ℚ (z ÷ℚ y) ≈ (x *ℚ z) ÷ℚ y
+    some s = ÷-unique s (≈-trans (*-assoc x (z ÷ℚ y) y) (*-≈ (≈-refl x) (÷-*-not-zero z s)))
+
+pub +-÷ : (x z y : ℚ) → x ÷ℚ y +ℚ z ÷ℚ y ≈ (x +ℚ z) ÷ℚ y
++-÷ x z y = ⊎-elim none some (zero-or-not y)
+  where
+    none : nat 0 ≈ y → x ÷ℚ y +ℚ z ÷ℚ y ≈ (x +ℚ z) ÷ℚ y
+    none e = linear (x ÷ℚ y ∷ z ÷ℚ y ∷ (x +ℚ z) ÷ℚ y ∷ []) (at 0 ≋ con 0 ∷ at 1 ≋ con 0 ∷ at 2 ≋ con 0 ∷ []) (at 0 ⊕ at 1 ≋ at 2) (λ d u w p h. omega arith) (÷-zero x e, (÷-zero z e, (÷-zero (x +ℚ z) e, tt)))
+
+    some : ¬ (nat 0 ≈ y) → x ÷ℚ y +ℚ z ÷ℚ y ≈ (x +ℚ z) ÷ℚ y
+    some s = ÷-unique s (≈-trans (+-* (x ÷ℚ y) (z ÷ℚ y) y) (+-≈ (÷-*-not-zero x s) (÷-*-not-zero z s)))
+
+pub neg-÷ : (x y : ℚ) → negℚ (x ÷ℚ y) ≈ negℚ x ÷ℚ y
+neg-÷ x y = ⊎-elim none some (zero-or-not y)
+  where
+    none : nat 0 ≈ y → negℚ (x ÷ℚ y) ≈ negℚ x ÷ℚ y
+    none e = linear (x ÷ℚ y ∷ negℚ x ÷ℚ y ∷ []) (at 0 ≋ con 0 ∷ at 1 ≋ con 0 ∷ []) (neg (at 0) ≋ at 1) (λ d u w p h. omega arith) (÷-zero x e, (÷-zero (negℚ x) e, tt))
+
+    some : ¬ (nat 0 ≈ y) → negℚ (x ÷ℚ y) ≈ negℚ x ÷ℚ y
+    some s = ÷-unique s (≈-trans (neg-* (x ÷ℚ y) y) (linear ((x ÷ℚ y) *ℚ y ∷ x ∷ []) (at 0 ≋ at 1 ∷ []) (neg (at 0) ≋ neg (at 1)) (λ d u w p h. omega arith) (÷-*-not-zero x s, tt)))
+
+pub −-÷ : (x z y : ℚ) → x ÷ℚ y -ℚ z ÷ℚ y ≈ (x -ℚ z) ÷ℚ y
+−-÷ x z y = ≈-trans (+-≈ (≈-refl (x ÷ℚ y)) (neg-÷ z y)) (+-÷ x (negℚ z) y)
+
+-- Floors of quotients of whole numbers.
+
+pub floor-low : (a b : ℕ) → 0 < b → nat (a / b) ≤ℚ nat a ÷ℚ nat b
+floor-low a b h = ≤-÷ {x = nat a} {y = nat b} (nat-< h) (omega (arith, div-mul-le-self a b))
+
+pub floor-high : (a b : ℕ) → 0 < b → nat a ÷ℚ nat b ≤ℚ nat (a / b) +ℚ nat 1
+floor-high a b h = ÷-≤ {x = nat a} {y = nat b} (nat-< h) (omega (arith, lt-div-mul-add {a = a} h))
+
+pub int-floor-low : (z : ℤ) (b : ℕ) → 0 < b → int (divEuclid z (pos b)) ≤ℚ int z ÷ℚ nat b
+int-floor-low (pos a) b h = floor-low a b h
+int-floor-low (negsuc a) b h = ≤-÷ {x = int (negsuc a)} {y = nat b} (nat-< h) (omega (arith, lt-div-mul-add {a = a} h))
+
+pub int-floor-high : (z : ℤ) (b : ℕ) → 0 < b → int z ÷ℚ nat b ≤ℚ int (divEuclid z (pos b)) +ℚ nat 1
+int-floor-high (pos a) b h = floor-high a b h
+int-floor-high (negsuc a) b h = ÷-≤ {x = int (negsuc a)} {y = nat b} (nat-< h) (omega (arith, div-mul-le-self a b))
+
+-- Least and greatest.
+
+pub min-left : (x y : ℚ) → minℚ x y ≤ℚ x
+min-left x y = record { le = omega (arith, mul-le-mul-right (x .den) less) }
+  where
+    less : minℚ x y .plus ≤ x .plus * y .den + y .minus * x .den
+    less = omega arith
+
+pub min-right : (x y : ℚ) → minℚ x y ≤ℚ y
+min-right x y = record { le = omega (arith, mul-le-mul-right (y .den) less) }
+  where
+    less : minℚ x y .plus ≤ y .plus * x .den + x .minus * y .den
+    less = omega arith
+
+pub min-either : (x y : ℚ) → (minℚ x y ≈ x) ⊎ (minℚ x y ≈ y)
+min-either x y =
+    ⊎-elim
+      (λ h. inl (record { eq = omega (arith, ap (λ (n : ℕ). n * x .den) (first h)) }))
+      (λ h. inr (record { eq = omega (arith, ap (λ (n : ℕ). n * y .den) (second h)) }))
+      (either-≤ (x .plus * y .den + y .minus * x .den) (y .plus * x .den + x .minus * y .den))
+  where
+    first : x .plus * y .den + y .minus * x .den ≤ y .plus * x .den + x .minus * y .den → minℚ x y .plus ≡ x .plus * y .den + y .minus * x .den
+    first h = omega arith
+
+    second : y .plus * x .den + x .minus * y .den ≤ x .plus * y .den + y .minus * x .den → minℚ x y .plus ≡ y .plus * x .den + x .minus * y .den
+    second h = omega arith
+
+pub left-max : (x y : ℚ) → x ≤ℚ maxℚ x y
+left-max x y = record { le = omega (arith, mul-le-mul-right (x .den) less) }
+  where
+    less : x .plus * y .den + y .minus * x .den ≤ maxℚ x y .plus
+    less = omega arith
+
+pub right-max : (x y : ℚ) → y ≤ℚ maxℚ x y
+right-max x y = record { le = omega (arith, mul-le-mul-right (y .den) less) }
+  where
+    less : y .plus * x .den + x .minus * y .den ≤ maxℚ x y .plus
+    less = omega arith
+
+pub max-either : (x y : ℚ) → (maxℚ x y ≈ x) ⊎ (maxℚ x y ≈ y)
+max-either x y =
+    ⊎-elim
+      (λ h. inr (record { eq = omega (arith, ap (λ (n : ℕ). n * y .den) (second h)) }))
+      (λ h. inl (record { eq = omega (arith, ap (λ (n : ℕ). n * x .den) (first h)) }))
+      (either-≤ (x .plus * y .den + y .minus * x .den) (y .plus * x .den + x .minus * y .den))
+  where
+    first : y .plus * x .den + x .minus * y .den ≤ x .plus * y .den + y .minus * x .den → maxℚ x y .plus ≡ x .plus * y .den + y .minus * x .den
+    first h = omega arith
+
+    second : x .plus * y .den + y .minus * x .den ≤ y .plus * x .den + x .minus * y .den → maxℚ x y .plus ≡ y .plus * x .den + x .minus * y .den
+    second h = omega arith
+
+pub ≤-min : {x y z : ℚ} → z ≤ℚ x → z ≤ℚ y → z ≤ℚ minℚ x y
+≤-min {x} {y} h k = ⊎-elim (λ e. ≤-trans h (≈→≥ e)) (λ e. ≤-trans k (≈→≥ e)) (min-either x y)
+
+pub max-≤ : {x y z : ℚ} → x ≤ℚ z → y ≤ℚ z → maxℚ x y ≤ℚ z
+max-≤ {x} {y} h k = ⊎-elim (λ e. ≤-trans (≈→≤ e) h) (λ e. ≤-trans (≈→≤ e) k) (max-either x y)
+
+pub min-mono : {x y x′ y′ : ℚ} → x ≤ℚ x′ → y ≤ℚ y′ → minℚ x y ≤ℚ minℚ x′ y′
+min-mono {x} {y} h k = ≤-min (≤-trans (min-left x y) h) (≤-trans (min-right x y) k)
+
+pub max-mono : {x y x′ y′ : ℚ} → x ≤ℚ x′ → y ≤ℚ y′ → maxℚ x y ≤ℚ maxℚ x′ y′
+max-mono {x′ = x′} {y′ = y′} h k = max-≤ (≤-trans h (left-max x′ y′)) (≤-trans k (right-max x′ y′))
+
+pub min-≈ : {x y x′ y′ : ℚ} → x ≈ x′ → y ≈ y′ → minℚ x y ≈ minℚ x′ y′
+min-≈ h k = ≤-antisym (min-mono (≈→≤ h) (≈→≤ k)) (min-mono (≈→≥ h) (≈→≥ k))
+
+pub max-≈ : {x y x′ y′ : ℚ} → x ≈ x′ → y ≈ y′ → maxℚ x y ≈ maxℚ x′ y′
+max-≈ h k = ≤-antisym (max-mono (≈→≤ h) (≈→≤ k)) (max-mono (≈→≥ h) (≈→≥ k))
+
+-- Size.
+
+pub ≤-abs : (x : ℚ) → x ≤ℚ absℚ x
+≤-abs x = record { le = omega (arith, mul-le-mul-right (x .den) less) }
+  where
+    less : x .plus ≤ absℚ x .plus + x .minus
+    less = omega arith
+
+pub neg-≤-abs : (x : ℚ) → negℚ x ≤ℚ absℚ x
+neg-≤-abs x = record { le = omega (arith, mul-le-mul-right (x .den) less) }
+  where
+    less : x .minus ≤ absℚ x .plus + x .plus
+    less = omega arith
+
+pub abs-either : (x : ℚ) → (absℚ x ≈ x) ⊎ (absℚ x ≈ negℚ x)
+abs-either x =
+    ⊎-elim
+      (λ h. inr (record { eq = omega (arith, ap (λ (n : ℕ). n * x .den) (below h)) }))
+      (λ h. inl (record { eq = omega (arith, ap (λ (n : ℕ). n * x .den) (above h)) }))
+      (either-≤ (x .plus) (x .minus))
+  where
+    below : x .plus ≤ x .minus → absℚ x .plus + x .plus ≡ x .minus
+    below h = omega arith
+
+    above : x .minus ≤ x .plus → absℚ x .plus + x .minus ≡ x .plus
+    above h = omega arith
+
+pub abs-≤ : {x y : ℚ} → x ≤ℚ y → negℚ x ≤ℚ y → absℚ x ≤ℚ y
+abs-≤ {x} h k = ⊎-elim (λ e. ≤-trans (≈→≤ e) h) (λ e. ≤-trans (≈→≤ e) k) (abs-either x)
+
+pub abs-≥0 : (x : ℚ) → nat 0 ≤ℚ absℚ x
+abs-≥0 x = omega arith
