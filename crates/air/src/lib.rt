@@ -1,0 +1,2 @@
+// The air of a day.
+pub mod day;
