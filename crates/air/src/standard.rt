@@ -19,7 +19,7 @@ const DENSITIES: [u64; 61] = [
 // The table falls strictly and keeps within the bounds of a day, and no density between its levels is negative.
 pub fn table_stands()
     ensures falling { λ _. ⌜ Falling table ⌝ }
-    ensures within { λ _. ⌜ Within table ⌝ }
+    ensures within { λ _. ⌜ Within 5000 150000 table ⌝ }
     ensures counted { λ _. ⌜ Counted ⌝ }
 {
 }
