@@ -38,5 +38,5 @@ answered {a} laws {h} {density} {deviation} e =
       density-low = omega (arith, laws .density-low h p);
       density-high = omega (arith, laws .density-high h p);
       deviation-low = subst low (sym d) (laws .deviation-low h p);
-      deviation-high = subst high (sym d) (laws .deviation-high h p)
+      deviation-high = subst high (sym d) (laws .deviation-high h p);
     }

@@ -10,7 +10,7 @@ use mir.Val.{SFits, toZ, ofZ}
 use Rattle.std.specs.Numbers.{divEuclid}
 use Rattle.std.proofs.shelf.Signed.{ints, toZ-ofZ, toZ-pos}
 use Rattle.air.specs.Between.{between, Neighbours}
-use Rattle.air.proofs.Between.{between-low, between-high}
+use Rattle.air.proofs.Between.{Inside, between-inside}
 
 -- a number as 64 bits hold it
 abbrev word : ℤ → ℤ
@@ -29,8 +29,8 @@ product-fits (pos a) t p q = small-fits (pos (a * t)) (mul-le-mul {n₂ = 300000
 product-fits (negsuc a) t p q =
     small-fits (negsuc a *ℤ pos t) (omega (arith, abs-of-fall (suc a * t), mul-le-mul {n₂ = 300000} {m₂ = 60000} p q))
 
-within-fits : (z : ℤ) → negsuc 149999 ≤ℤ z → z ≤ℤ pos 150000 → SFits w64 z
-within-fits z l h = small-fits z (omega (arith, ints))
+inside-fits : (z : ℤ) → Inside (negsuc 149999) (pos 150000) z → SFits w64 z
+inside-fits z i = small-fits z (omega (arith, ints))
 
 module _ {x0 x1 : ℤ} {h0 h1 h : ℕ} (n : Neighbours x0 x1 h0 h1 h) where
   difference-small : natAbs (x1 -ℤ x0) ≤ 300000
@@ -56,9 +56,8 @@ module _ {x0 x1 : ℤ} {h0 h1 h : ℕ} (n : Neighbours x0 x1 h0 h1 h) where
 
   between-fits : SFits w64 (between x0 x1 h0 h1 h)
   between-fits =
-      within-fits (between x0 x1 h0 h1 h)
-      (between-low (negsuc 149999) x0 x1 h0 h1 h (omega arith) (omega arith) (omega (arith, ints)) (omega (arith, ints)))
-      (between-high (pos 150000) x0 x1 h0 h1 h (omega arith) (omega arith) (omega (arith, ints)) (omega (arith, ints)))
+      inside-fits (between x0 x1 h0 h1 h)
+      (between-inside x0 x1 h0 h1 h (omega arith) (omega arith) (record { low = omega (arith, ints); high = omega (arith, ints) }) (record { low = omega (arith, ints); high = omega (arith, ints) }))
 
   -- q is the quotient that the code adds
   module _ {q : ℤ} (fits : SFits w64 q) (part : q ≡ divEuclid (word rise) (pos (h1 - h0))) where
