@@ -1,1 +1,4 @@
 pub mod Meaning
+pub mod Formulas
+pub mod Jets
+pub mod Turboprops
