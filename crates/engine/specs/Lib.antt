@@ -2,3 +2,4 @@ pub mod Meaning
 pub mod Formulas
 pub mod Jets
 pub mod Turboprops
+pub mod Engines

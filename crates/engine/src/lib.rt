@@ -1,4 +1,5 @@
 // Engine kinds: what a kind is, jets and turboprops, and the engine of an aircraft.
+pub mod any;
 mod asked;
 mod formulas;
 pub mod jet;
