@@ -5,7 +5,7 @@ use Prim.Native.Nat.{ℕ, zero, suc, _+_, _*_, _<_, _≤_}
 use native.Mathlib.Nat.{mul-pos, mul-le-mul-right, le-of-mul-le-mul-right, lt-of-mul-lt-mul-right, mul-lt-mul-of-pos-right, eq-of-mul-eq-mul-right}
 use native.Mathlib.Omega.{arith}
 use Rattle.exact.specs.Rational.{ℚ, _≤ℚ_, _<ℚ_, _≈_, nat, _+ℚ_, _-ℚ_, negℚ, _*ℚ_, Near}
-use Rattle.exact.proofs.Order.{≤-antisym, ≈→≤, ≈→≥, near-out, near-in}
+use Rattle.exact.proofs.Laws.Order.{≤-antisym, ≈→≤, ≈→≥, near-out, near-in}
 
 infix 68 _≼_ _≺_ _≋_
 infixl 70 _⊕_ _⊖_
