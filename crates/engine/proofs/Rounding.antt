@@ -1,59 +1,30 @@
--- How far a value that was rounded down may be from the exact one, through quotients, products and a greatest with 0.
-use mathlib.Core.Path.{_≡_}
+-- One floor of a multiple of a rounded value, and bounds of an exact value by the rounded one.
+use mathlib.Core.Path.{_≡_, subst}
 use mathlib.Core.List.{List, [], _∷_}
-use mathlib.Core.Logic.{⊎-elim}
-use Prim.Native.Nat.{ℕ, _+_, _-_, _*_, _/_, _^_, _<_, _≤_}
-use native.Mathlib.Nat.{div-mul-le-self, lt-div-mul-add, mul-le-mul}
+use Prim.Native.Nat.{ℕ, _+_, _*_, _/_, _<_, _≤_}
+use native.Mathlib.Nat.{mul-comm}
 use native.Mathlib.Omega.{arith}
-use Rattle.exact.specs.Rational.{ℚ, nat, _+ℚ_, _-ℚ_, _*ℚ_, _÷ℚ_, maxℚ, _≤ℚ_, _≈_, Near}
-use Rattle.exact.proofs.Laws.{≤-refl, ≤-trans, ≈→≤, ≈→≥, either-≤, nat-≤, nat-<, nat-≥0, near-in, *-comm, *-+, +-*, *-mono, *-mono-left, *-mono₂, *-cancel, ÷-*, ÷-≤, ≤-÷, ÷-mono, shrink}
-use Rattle.exact.proofs.Linear.{linear, at, con, _⊕_, _⊖_, _⊛_, _≼_, _≋_}
+use Rattle.exact.specs.Rational.{ℚ, nat, _+ℚ_, _-ℚ_, _*ℚ_, _÷ℚ_, _≤ℚ_, Near}
+use Rattle.exact.proofs.Laws.{≤-trans, ≈-refl, nat-<, nat-≥0, nat-*, *-comm, ÷-≤, ÷-≈, near-out, near-≈, near-weaken, near-*, near-floor-of}
+use Rattle.exact.proofs.Linear.{linear, at, con, _⊕_, _⊖_, _≼_}
 
--- n is at most `under` above x, and x at most `over` above n
-pub record Within (n : ℕ) (x : ℚ) (under over : ℕ) : Type 0 where
-  pub low : nat n ≤ℚ x +ℚ nat under
-  pub high : x ≤ℚ nat n +ℚ nat over
-
-pub within-near : {n : ℕ} {x : ℚ} {under over : ℕ} (e : ℕ) → under ≤ e → over ≤ e → Within n x under over → Near (nat n) x (nat e)
-within-near {n} {x} {under} {over} e p q w =
-    near-in
-    (linear (nat n ∷ x ∷ nat under ∷ nat e ∷ []) (at 0 ≼ at 1 ⊕ at 2 ∷ at 2 ≼ at 3 ∷ []) (at 0 ≼ at 1 ⊕ at 3) (λ d u w p h. omega arith) (w .low, (nat-≤ p, tt)))
-    (linear (nat n ∷ x ∷ nat over ∷ nat e ∷ []) (at 1 ≼ at 0 ⊕ at 2 ∷ at 2 ≼ at 3 ∷ []) (at 1 ≼ at 0 ⊕ at 3) (λ d u w p h. omega arith) (w .high, (nat-≤ q, tt)))
-
-pub within-high : {n : ℕ} {x : ℚ} {under over : ℕ} (m : ℕ) → n + over ≤ m → Within n x under over → x ≤ℚ nat m
-within-high {n} {x} {under} {over} m p w = ≤-trans (w .high) (omega arith)
-
--- one floor
-pub floor-within : (a b : ℕ) → 0 < b → Within (a / b) (nat a ÷ℚ nat b) 0 1
-floor-within a b p =
-    record {
-      low = ≤-trans below (linear (nat a ÷ℚ nat b ∷ []) [] (at 0 ≼ at 0 ⊕ con 0) (λ d u w p h. omega arith) tt);
-      high = ÷-≤ {x = nat a} {y = nat b} (nat-< p) (omega (arith, lt-div-mul-add {a = a} p));
-    }
+-- the error of the multiple, and one unit for the floor
+pub near-times : {a e : ℕ} {x : ℚ} (m b t : ℕ) → 0 < b → e * m + b ≤ t * b → Near (nat a) x (nat e) → Near (nat (a * m / b)) (x *ℚ nat m ÷ℚ nat b) (nat t)
+near-times {a} {e} {x} m b t p q n =
+    near-weaken (near-floor-of (a * m) b p (near-≈ (nat-* a m) (≈-refl (x *ℚ nat m)) (near-* (nat m) (nat-≥0 m) n))) room
   where
-    below : nat (a / b) ≤ℚ nat a ÷ℚ nat b
-    below = ≤-÷ {x = nat a} {y = nat b} (nat-< p) (omega (arith, div-mul-le-self a b))
+    share : nat e *ℚ nat m ÷ℚ nat b ≤ℚ nat t -ℚ nat 1
+    share = ÷-≤ {x = nat e *ℚ nat m} {y = nat b} (nat-< p) (omega arith)
 
--- one floor of a multiple
-pub multiple-within : {a : ℕ} {x : ℚ} {under over : ℕ} (m b under′ over′ : ℕ) → 0 < b → under * m ≤ b * under′ → b + over * m ≤ b * over′ → Within a x under over → Within (m * a / b) (nat m *ℚ x ÷ℚ nat b) under′ over′
-multiple-within {a} {x} {under} {over} m b under′ over′ p q r w = record { low = *-cancel (nat b) (nat-< p) below; high = ÷-≤ (nat-< p) above }
-  where
-    below : nat (m * a / b) *ℚ nat b ≤ℚ (nat m *ℚ x ÷ℚ nat b +ℚ nat under′) *ℚ nat b
-    below =
-        linear
-        (nat (m * a / b) *ℚ nat b ∷ (nat m *ℚ x ÷ℚ nat b +ℚ nat under′) *ℚ nat b ∷ nat m *ℚ x ÷ℚ nat b *ℚ nat b ∷ nat under′ *ℚ nat b ∷ nat m *ℚ x ∷ nat m *ℚ nat a ∷ nat m *ℚ nat under ∷ nat m *ℚ (x +ℚ nat under) ∷ [])
-        (at 1 ≋ at 2 ⊕ at 3 ∷ at 2 ≋ at 4 ∷ at 5 ≼ at 7 ∷ at 7 ≋ at 4 ⊕ at 6 ∷ at 0 ≼ at 5 ∷ at 6 ≼ at 3 ∷ [])
-        (at 0 ≼ at 1)
-        (λ d u w p h. omega arith)
-        (+-* _ _ _, (÷-* _ (nat-< p), (*-mono-left (nat m) (nat-≥0 m) (w .low), (*-+ _ _ _, (omega (arith, div-mul-le-self (m * a) b), (omega arith, tt))))))
+    room : nat 1 +ℚ nat e *ℚ nat m ÷ℚ nat b ≤ℚ nat t
+    room =
+        linear (nat e *ℚ nat m ÷ℚ nat b ∷ nat t ∷ []) (at 0 ≼ at 1 ⊖ con 1 ∷ []) (con 1 ⊕ at 0 ≼ at 1) (λ d u w p h. omega arith) (share, tt)
 
-    above : nat m *ℚ x ≤ℚ (nat (m * a / b) +ℚ nat over′) *ℚ nat b
-    above = ≤-trans (*-mono-left (nat m) (nat-≥0 m) (w .high)) (omega (arith, lt-div-mul-add {a = m * a} p))
+-- the same with the factor in front
+pub times-near : {a e : ℕ} {x : ℚ} (m b t : ℕ) → 0 < b → e * m + b ≤ t * b → Near (nat a) x (nat e) → Near (nat (m * a / b)) (nat m *ℚ x ÷ℚ nat b) (nat t)
+times-near {a} {e} {x} m b t p q n =
+    subst (λ (c : ℕ). Near (nat (c / b)) (nat m *ℚ x ÷ℚ nat b) (nat t)) (mul-comm a m)
+    (near-≈ (≈-refl (nat (a * m / b))) (÷-≈ (*-comm (nat m) x) (≈-refl (nat b))) (near-times m b t p q n))
 
--- the factor on the other side
-pub times-within : {a : ℕ} {x : ℚ} {under over : ℕ} (m b under′ over′ : ℕ) → 0 < b → under * m ≤ b * under′ → b + over * m ≤ b * over′ → Within a x under over → Within (a * m / b) (x *ℚ nat m ÷ℚ nat b) under′ over′
-times-within {a} {x} m b under′ over′ p q r w = ?
-
--- a value held above 0: y is the exact value of a - b
-pub clipped-within : (a b : ℕ) (y : ℚ) (under over : ℕ) → nat a ≤ℚ (y +ℚ nat b) +ℚ nat under → y +ℚ nat b ≤ℚ nat a +ℚ nat over → Within (a - b) (maxℚ (nat 0) y) under over
-clipped-within a b y under over p q = ?
+pub near-high : {n e : ℕ} {x : ℚ} (m : ℕ) → n + e ≤ m → Near (nat n) x (nat e) → x ≤ℚ nat m
+near-high m p n = ≤-trans (near-out n .1) (omega arith)
