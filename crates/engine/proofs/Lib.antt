@@ -1,3 +1,4 @@
 pub mod Bounds
 pub mod Rounding
 pub mod Flows
+pub mod Laws
