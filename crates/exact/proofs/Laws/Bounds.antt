@@ -24,9 +24,9 @@ min-right x y = record { le = omega (arith, mul-le-mul-right (y .den) less) }
 pub min-either : (x y : ℚ) → (minℚ x y ≈ x) ⊎ (minℚ x y ≈ y)
 min-either x y =
     ⊎-elim
-      (λ h. inl (record { eq = omega (arith, ap (λ (n : ℕ). n * x .den) (first h)) }))
-      (λ h. inr (record { eq = omega (arith, ap (λ (n : ℕ). n * y .den) (second h)) }))
-      (either-≤ (x .plus * y .den + y .minus * x .den) (y .plus * x .den + x .minus * y .den))
+    (λ h. inl (record { eq = omega (arith, ap (λ (n : ℕ). n * x .den) (first h)) }))
+    (λ h. inr (record { eq = omega (arith, ap (λ (n : ℕ). n * y .den) (second h)) }))
+    (either-≤ (x .plus * y .den + y .minus * x .den) (y .plus * x .den + x .minus * y .den))
   where
     first : x .plus * y .den + y .minus * x .den ≤ y .plus * x .den + x .minus * y .den → minℚ x y .plus ≡ x .plus * y .den + y .minus * x .den
     first h = omega arith
@@ -49,9 +49,9 @@ right-max x y = record { le = omega (arith, mul-le-mul-right (y .den) less) }
 pub max-either : (x y : ℚ) → (maxℚ x y ≈ x) ⊎ (maxℚ x y ≈ y)
 max-either x y =
     ⊎-elim
-      (λ h. inr (record { eq = omega (arith, ap (λ (n : ℕ). n * y .den) (second h)) }))
-      (λ h. inl (record { eq = omega (arith, ap (λ (n : ℕ). n * x .den) (first h)) }))
-      (either-≤ (x .plus * y .den + y .minus * x .den) (y .plus * x .den + x .minus * y .den))
+    (λ h. inr (record { eq = omega (arith, ap (λ (n : ℕ). n * y .den) (second h)) }))
+    (λ h. inl (record { eq = omega (arith, ap (λ (n : ℕ). n * x .den) (first h)) }))
+    (either-≤ (x .plus * y .den + y .minus * x .den) (y .plus * x .den + x .minus * y .den))
   where
     first : y .plus * x .den + x .minus * y .den ≤ x .plus * y .den + y .minus * x .den → maxℚ x y .plus ≡ x .plus * y .den + y .minus * x .den
     first h = omega arith
@@ -94,9 +94,9 @@ neg-≤-abs x = record { le = omega (arith, mul-le-mul-right (x .den) less) }
 pub abs-either : (x : ℚ) → (absℚ x ≈ x) ⊎ (absℚ x ≈ negℚ x)
 abs-either x =
     ⊎-elim
-      (λ h. inr (record { eq = omega (arith, ap (λ (n : ℕ). n * x .den) (below h)) }))
-      (λ h. inl (record { eq = omega (arith, ap (λ (n : ℕ). n * x .den) (above h)) }))
-      (either-≤ (x .plus) (x .minus))
+    (λ h. inr (record { eq = omega (arith, ap (λ (n : ℕ). n * x .den) (below h)) }))
+    (λ h. inl (record { eq = omega (arith, ap (λ (n : ℕ). n * x .den) (above h)) }))
+    (either-≤ (x .plus) (x .minus))
   where
     below : x .plus ≤ x .minus → absℚ x .plus + x .plus ≡ x .minus
     below h = omega arith
