@@ -2,3 +2,5 @@ pub mod Bounds
 pub mod Rounding
 pub mod Flows
 pub mod Laws
+pub mod Factor
+pub mod JetLaws
