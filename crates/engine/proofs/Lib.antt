@@ -4,3 +4,4 @@ pub mod Flows
 pub mod Laws
 pub mod Factor
 pub mod JetLaws
+pub mod TurbopropLaws
