@@ -2,9 +2,9 @@
 use mathlib.Core.Path.{_≡_, refl, ap}
 use Prim.Native.Nat.{ℕ, _+_, _*_}
 use native.Mathlib.Omega.{arith}
-use lib.IntN.{ℤ, pos, negsuc, _+ℤ_, _*ℤ_, negℤ}
+use lib.IntN.{ℤ, pos, negsuc, _+ℤ_, _*ℤ_}
 use borrow.Author.Differences.{ints, up, down, same-in, same-out, at-most-in, le-out, below-in, lt-out, product-is, sum-is}
-use Rattle.exact.specs.Rational.{ℚ, _≤ℚ_, _<ℚ_, _≈_, int, _+ℚ_, negℚ, _*ℚ_}
+use Rattle.exact.specs.Rational.{ℚ, int, _+ℚ_, _*ℚ_}
 use Rattle.exact.specs.Meaning.{numer, denom, As-fractions, Undoes-product, By-order}
 use Rattle.exact.proofs.Laws.{≤-trans, ≈-sym, near-out, near-in, ÷-*-not-zero, ÷-zero, min-left, min-right, ≤-min, left-max, right-max, max-≤, ≤-abs, neg-≤-abs, abs-≤}
 

@@ -32,6 +32,9 @@ pub *-one : (x : ℚ) → nat 1 *ℚ x ≈ x
 pub *-zero : (x : ℚ) → x *ℚ nat 0 ≈ nat 0
 *-zero x = omega arith
 
+pub zero-* : (x : ℚ) → nat 0 *ℚ x ≈ nat 0
+zero-* x = omega arith
+
 pub neg-* : (x y : ℚ) → negℚ x *ℚ y ≈ negℚ (x *ℚ y)
 neg-* x y = omega arith
 
@@ -96,7 +99,7 @@ pub *-mono₂ : {x y x′ y′ : ℚ} → nat 0 ≤ℚ x → nat 0 ≤ℚ y′ �
 *-mono₂ {x} {y} {x′} {y′} s t h k = ≤-trans (*-mono-left x s k) (*-mono y′ t h)
 
 pub *-≥0 : {x y : ℚ} → nat 0 ≤ℚ x → nat 0 ≤ℚ y → nat 0 ≤ℚ x *ℚ y
-*-≥0 {x} {y} s t = ≤-trans (≈→≥ (≈-trans (*-comm (nat 0) y) (*-zero y))) (*-mono y t s)
+*-≥0 {x} {y} s t = ≤-trans (≈→≥ (zero-* y)) (*-mono y t s)
 
 pub *-pos : {x y : ℚ} → nat 0 <ℚ x → nat 0 <ℚ y → nat 0 <ℚ x *ℚ y
 *-pos {x} {y} s t = record { lt = omega (arith, uncrossed) }

@@ -11,7 +11,7 @@ use Rattle.std.specs.Numbers.{divEuclid}
 use Rattle.exact.specs.Rational.{ℚ, _≤ℚ_, _<ℚ_, _≈_, nat, int, _+ℚ_, _-ℚ_, negℚ, _*ℚ_, _÷ℚ_, times-over}
 use Rattle.exact.proofs.Laws.Order.{≤-trans, ≤-antisym, ≈-refl, ≈-sym, ≈-trans, ≈→≤, ≈→≥, <→≤, <-≤-trans, <-or-≥, <→≱}
 use Rattle.exact.proofs.Laws.Whole.{nat-<}
-use Rattle.exact.proofs.Laws.Products.{≈-by, *-comm, *-assoc, *-zero, neg-*, +-*, +-≈, *-mono, *-mono-left, *-≈, *-cancel}
+use Rattle.exact.proofs.Laws.Products.{≈-by, *-comm, *-assoc, *-zero, zero-*, neg-*, +-*, +-≈, *-mono, *-mono-left, *-≈, *-cancel}
 use Rattle.exact.proofs.Linear.{linear, at, con, _⊕_, neg, _≋_}
 
 pub zero-or-not : (y : ℚ) → (nat 0 ≈ y) ⊎ (¬ (nat 0 ≈ y))
@@ -56,10 +56,10 @@ pub ÷-mono : {x x′ y : ℚ} → nat 0 <ℚ y → x ≤ℚ x′ → x ÷ℚ y 
 ÷-mono {x} s h = ≤-÷ s (≤-trans (≈→≤ (÷-* x s)) h)
 
 pub ÷-≥0 : {x y : ℚ} → nat 0 <ℚ y → nat 0 ≤ℚ x → nat 0 ≤ℚ x ÷ℚ y
-÷-≥0 {x} {y} s h = ≤-÷ s (≤-trans (≈→≤ (≈-trans (*-comm (nat 0) y) (*-zero y))) h)
+÷-≥0 {x} {y} s h = ≤-÷ s (≤-trans (≈→≤ (zero-* y)) h)
 
 pub ÷-pos : {x y : ℚ} → nat 0 <ℚ y → nat 0 <ℚ x → nat 0 <ℚ x ÷ℚ y
-÷-pos {x} {y} s h = ⊎-elim (λ p. p) (λ n. absurd (<→≱ h (≤-trans (≈→≥ (÷-* x s)) (≤-trans (*-mono y (<→≤ s) n) (≈→≤ (≈-trans (*-comm (nat 0) y) (*-zero y))))))) (<-or-≥ (nat 0) (x ÷ℚ y))
+÷-pos {x} {y} s h = ⊎-elim (λ p. p) (λ n. absurd (<→≱ h (≤-trans (≈→≥ (÷-* x s)) (≤-trans (*-mono y (<→≤ s) n) (≈→≤ (zero-* y)))))) (<-or-≥ (nat 0) (x ÷ℚ y))
 
 -- by a greater divisor less
 pub ÷-falls : {x y y′ : ℚ} → nat 0 ≤ℚ x → nat 0 <ℚ y → y ≤ℚ y′ → x ÷ℚ y′ ≤ℚ x ÷ℚ y
@@ -87,10 +87,10 @@ pub ÷-unique : {x y z : ℚ} → ¬ (nat 0 ≈ y) → z *ℚ y ≈ x → z ≈ 
 
 -- a product is zero only by a factor
 pub *-not-zero : {x y : ℚ} → ¬ (nat 0 ≈ x) → ¬ (nat 0 ≈ y) → ¬ (nat 0 ≈ x *ℚ y)
-*-not-zero {x} {y} s t e = s (*-cancel-≈ t (≈-trans (≈-trans (*-comm (nat 0) y) (*-zero y)) e))
+*-not-zero {x} {y} s t e = s (*-cancel-≈ t (≈-trans (zero-* y) e))
 
 pub zero-÷ : (y : ℚ) → nat 0 ÷ℚ y ≈ nat 0
-zero-÷ y = ⊎-elim (λ e. ÷-zero (nat 0) e) (λ s. ≈-sym (÷-unique s (≈-trans (*-comm (nat 0) y) (*-zero y)))) (zero-or-not y)
+zero-÷ y = ⊎-elim (λ e. ÷-zero (nat 0) e) (λ s. ≈-sym (÷-unique s (zero-* y))) (zero-or-not y)
 
 pub ÷-≈ : {x y x′ y′ : ℚ} → x ≈ x′ → y ≈ y′ → x ÷ℚ y ≈ x′ ÷ℚ y′
 ÷-≈ {x} {y} {x′} {y′} h k = ⊎-elim none some (zero-or-not y)
@@ -138,7 +138,7 @@ pub ÷-÷ : (x y z : ℚ) → (x ÷ℚ y) ÷ℚ z ≈ x ÷ℚ (y *ℚ z)
 ÷-÷ x y z = ⊎-elim (λ e. none-left e) (λ s. ⊎-elim (λ e. none-right e) (λ t. some s t) (zero-or-not z)) (zero-or-not y)
   where
     none-left : nat 0 ≈ y → (x ÷ℚ y) ÷ℚ z ≈ x ÷ℚ (y *ℚ z)
-    none-left e = ≈-trans (÷-≈ (÷-zero x e) (≈-refl z)) (≈-trans (zero-÷ z) (≈-sym (÷-zero x (≈-trans (≈-sym (≈-trans (*-comm (nat 0) z) (*-zero z))) (*-≈ e (≈-refl z))))))
+    none-left e = ≈-trans (÷-≈ (÷-zero x e) (≈-refl z)) (≈-trans (zero-÷ z) (≈-sym (÷-zero x (≈-trans (≈-sym (zero-* z)) (*-≈ e (≈-refl z))))))
 
     none-right : nat 0 ≈ z → (x ÷ℚ y) ÷ℚ z ≈ x ÷ℚ (y *ℚ z)
     none-right e = ≈-trans (÷-zero (x ÷ℚ y) e) (≈-sym (÷-zero x (≈-trans (≈-sym (*-zero y)) (*-≈ (≈-refl y) e))))
