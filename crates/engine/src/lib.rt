@@ -6,3 +6,6 @@ mod formulas;
 pub mod jet;
 pub mod kind;
 pub mod turboprop;
+
+#[cfg(test)]
+mod tests;
