@@ -37,7 +37,7 @@ use Rattle.opf.specs.Text.{lines}
 use Rattle.opf.specs.Fields.{field}
 use Rattle.opf.specs.DataLines.{Fields, nth-line, natural, integer, engine-of, masses-of, in-order, thrust-of, thrust-faults, ctc3-fault, row-of, row-from, line-naming, configuration-lines, configuration-of, parasitic, one-faults, two-faults}
 use Rattle.opf.specs.Files.{draft-of, lines-fault, data-lines, read-file}
-use Rattle.opf.specs.Records.{values-of, thrust-values, row-values, Ranged, Ranged-masses, Ranged-row, Ranged-thrust, Ranged-temperature, fuel-of}
+use Rattle.opf.specs.Records.{values-of, thrust-values, row-values, Ranged, Ranged-masses, Ranged-row, Ranged-thrust, Ranged-temperature}
 use Rattle.opf.specs.Printed.{Prints, Prints-count, line-of, Row-printed, Thrust-printed, Printed}
 use Rattle.opf.specs.Quantities as quantity
 use Rattle.opf.proofs.Accepted.{Natural-read, natural-clear, Integer-read, integer-clear}

@@ -18,13 +18,13 @@ use Rattle.aircraft.specs.declared.record.Fuel.{Fuel}
 use Rattle.aircraft.specs.declared.record.Row.{Row}
 use Rattle.aircraft.specs.declared.record.JetCoefficients.{JetCoefficients}
 use Rattle.aircraft.specs.declared.record.TurbopropCoefficients.{TurbopropCoefficients}
+use Rattle.aircraft.specs.Values.{fuel-of}
 use Rattle.aircraft.specs.Words.{engine-word, engine-type}
 use Rattle.opf.specs.declared.number.Number.{Number}
 use Rattle.opf.specs.declared.number.Quantity.{Quantity}
 use Rattle.opf.specs.Fields.{field}
 use Rattle.opf.specs.Numbers.{number-of, signed-value, raising, lowering}
 use Rattle.opf.specs.DataLines.{Fields, nth-line, names, line-naming, configuration-lines}
-use Rattle.opf.specs.Records.{fuel-of}
 use Rattle.opf.specs.Quantities as quantity
 
 -- v × 10 ^ lowering = ± digits × 10 ^ raising, where the number printed is ± digits × 10 ^ (exponent − 5)

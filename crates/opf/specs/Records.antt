@@ -28,6 +28,7 @@ use Rattle.aircraft.specs.declared.draft.DraftDescent.{DraftDescent}
 use Rattle.aircraft.specs.declared.draft.DraftConsumption.{DraftConsumption}
 use Rattle.aircraft.specs.declared.draft.DraftIdle.{DraftIdle}
 use Rattle.aircraft.specs.Drafts.{no-row}
+use Rattle.aircraft.specs.Values.{fuel-of}
 use Rattle.aircraft.specs.Words.{engine-type}
 
 abbrev pub masses-values : Masses → DraftMasses
@@ -47,10 +48,6 @@ thrust-values (kind.Turboprop c) t = record { ctc1 = c .ctc1; ctc2 = c .ctc2; ct
 abbrev pub Same-thrust : Engine → DraftThrust → Type 0
 Same-thrust (kind.Jet c) t = (c .ctc1 ≡ t .ctc1) × (c .ctc2 ≡ t .ctc2) × (pos (c .ctc3) ≡ t .ctc3)
 Same-thrust (kind.Turboprop c) t = (c .ctc1 ≡ t .ctc1) × (c .ctc2 ≡ t .ctc2) × (c .ctc3 ≡ t .ctc3)
-
-abbrev pub fuel-of : Engine → Fuel
-fuel-of (kind.Jet c) = c .fuel
-fuel-of (kind.Turboprop c) = c .fuel
 
 abbrev pub descent-values : Descent → DraftDescent
 descent-values d = record { low = d .low; high = d .high; level = d .level; approach = d .approach; landing = d .landing }

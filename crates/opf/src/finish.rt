@@ -1,8 +1,9 @@
 // The aircraft record of a plain record that is read without a fault.
 ghost use mathlib.Core.Path.{_≡_};
 ghost use mathlib.Core.List.{List};
+ghost use Rattle.aircraft.specs.Values.{fuel-of};
 ghost use Rattle.aircraft.specs.Words.{engine-type};
-ghost use Rattle.opf.specs.Records.{masses-values, row-values, rows-values, Same-thrust, fuel-of, descent-values, consumption-values, idle-values, values-of, Ranged-masses, Ranged-row, Ranged-rows, Ranged-descent, Ranged-temperature, Ranged-fuel, Ranged-thrust, Ranged};
+ghost use Rattle.opf.specs.Records.{masses-values, row-values, rows-values, Same-thrust, descent-values, consumption-values, idle-values, values-of, Ranged-masses, Ranged-row, Ranged-rows, Ranged-descent, Ranged-temperature, Ranged-fuel, Ranged-thrust, Ranged};
 use aircraft::draft::Draft;
 use aircraft::draft::DraftConsumption;
 use aircraft::draft::DraftDescent;
