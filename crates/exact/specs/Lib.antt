@@ -1,0 +1,2 @@
+pub mod Rational
+pub mod Meaning
