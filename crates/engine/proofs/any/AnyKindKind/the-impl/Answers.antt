@@ -1,0 +1,6 @@
+use Rattle.engine.specs.declared.any.AnyKind.the-variants as any
+use Rattle.engine.proofs.any.AnyKindKind.the-impl.Needs as need
+
+pub lawful-law : need.lawful-law
+lawful-law (any.Jet j) = ?
+lawful-law (any.Turboprop t) = ?

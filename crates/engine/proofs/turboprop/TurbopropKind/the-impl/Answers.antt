@@ -1,0 +1,4 @@
+use Rattle.engine.proofs.turboprop.TurbopropKind.the-impl.Needs as need
+
+pub lawful-law : need.lawful-law
+lawful-law s = ?

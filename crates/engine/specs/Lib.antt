@@ -1,0 +1,5 @@
+pub mod Meaning
+pub mod Formulas
+pub mod Jets
+pub mod Turboprops
+pub mod Engines

@@ -1,0 +1,7 @@
+// Engine kinds: what a kind is, jets and turboprops, and the engine of an aircraft.
+pub mod any;
+mod asked;
+mod formulas;
+pub mod jet;
+pub mod kind;
+pub mod turboprop;
