@@ -1,0 +1,6 @@
+pub mod Between
+mod Fits
+mod Every
+mod Table
+mod Laws
+mod Worked

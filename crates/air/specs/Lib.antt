@@ -1,0 +1,4 @@
+pub mod Day
+pub mod Between
+pub mod Standard
+pub mod Days
