@@ -1,0 +1,4 @@
+pub mod phase;
+pub mod mass;
+pub mod request;
+pub mod flown;

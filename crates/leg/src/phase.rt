@@ -1,0 +1,7 @@
+// The phase of a leg.
+#[derive(Clone, Copy, PartialEq, Eq, Debug)]
+pub enum Phase {
+    Climb,
+    Cruise,
+    Descent,
+}
