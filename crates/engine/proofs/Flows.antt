@@ -23,21 +23,33 @@ flow-near e y n p near = near-times n (10 ^ 8) 250 (omega arith) (omega arith) n
 module _ (y : ℚ) (y-low : nat 0 ≤ℚ y) where
   pub exact-flow-low : (x : ℚ) → nat 0 ≤ℚ x → nat 0 ≤ℚ exact-flow-of y x
   unfolding exact-flow-of
-  exact-flow-low x p = ÷-≥0 (nat-< (omega arith)) (*-≥0 y-low p)
+  exact-flow-low x p = ÷-≥0 {x = y *ℚ x} {y = nat (10 ^ 8)} (nat-< {b = 10 ^ 8} (omega arith)) (*-≥0 y-low p)
 
   pub exact-flow-rises : (x x′ : ℚ) → x ≤ℚ x′ → exact-flow-of y x ≤ℚ exact-flow-of y x′
   unfolding exact-flow-of
-  exact-flow-rises x x′ p = ÷-mono (nat-< (omega arith)) (*-mono-left y y-low p)
+  exact-flow-rises x x′ p = ÷-mono {x = y *ℚ x} {x′ = y *ℚ x′} {y = nat (10 ^ 8)} (nat-< {b = 10 ^ 8} (omega arith)) (*-mono-left y y-low p)
 
   module _ (y-high : y ≤ℚ nat 400000002) where
     pub exact-flow-high : (x : ℚ) → nat 0 ≤ℚ x → x ≤ℚ nat (10 ^ 10) → exact-flow-of y x ≤ℚ nat (10 ^ 11)
     unfolding exact-flow-of
     exact-flow-high x p q =
-        ÷-≤ (nat-< (omega arith)) (≤-trans (*-mono₂ y-low (nat-≥0 (10 ^ 10)) y-high q) (omega arith))
+        ÷-≤ {x = y *ℚ x} {y = nat (10 ^ 8)} (nat-< {b = 10 ^ 8} (omega arith)) (≤-trans (*-mono₂ y-low (nat-≥0 (10 ^ 10)) y-high q) (omega arith))
 
     pub exact-flow-gains : (x x′ : ℚ) → x ≤ℚ x′ → nat 1000 *ℚ (exact-flow-of y x′ -ℚ exact-flow-of y x) ≤ℚ nat 4001 *ℚ (x′ -ℚ x)
     unfolding exact-flow-of
-    exact-flow-gains x x′ p = ?
+    exact-flow-gains x x′ p =
+        linear
+        (y *ℚ x ÷ℚ nat (10 ^ 8) ∷ y *ℚ x′ ÷ℚ nat (10 ^ 8) ∷ y *ℚ x ∷ y *ℚ x′ ∷ (x′ -ℚ x) *ℚ y ∷ x′ *ℚ y ∷ x *ℚ y ∷ x ∷ x′ ∷ [])
+        ((10 ^ 8) ⊛ at 0 ≋ at 2 ∷ (10 ^ 8) ⊛ at 1 ≋ at 3 ∷ at 4 ≋ at 5 ⊖ at 6 ∷ at 5 ≋ at 3 ∷ at 6 ≋ at 2 ∷ at 4 ≼ 400000002 ⊛ (at 8 ⊖ at 7) ∷ at 7 ≼ at 8 ∷ [])
+        (1000 ⊛ (at 1 ⊖ at 0) ≼ 4001 ⊛ (at 8 ⊖ at 7))
+        (λ d u w p h. omega arith)
+        (shrink (10 ^ 8) (omega arith) (y *ℚ x), (shrink (10 ^ 8) (omega arith) (y *ℚ x′), (*-− x′ x y, (*-comm x′ y, (*-comm x y, (slope, (p, tt)))))))
+      where
+        more : nat 0 ≤ℚ x′ -ℚ x
+        more = linear (x ∷ x′ ∷ []) (at 0 ≼ at 1 ∷ []) (con 0 ≼ at 1 ⊖ at 0) (λ d u w p h. omega arith) (p, tt)
+
+        slope : (x′ -ℚ x) *ℚ y ≤ℚ nat 400000002 *ℚ (x′ -ℚ x)
+        slope = ≤-trans (*-mono-left (x′ -ℚ x) more y-high) (≈→≤ (*-comm (x′ -ℚ x) (nat 400000002)))
 
 pub idle-high : (f : Fuel) (h : ℕ) → idle-flow f h ≤ 1000000000
 idle-high f h = omega (arith, f .«cf3_most», share (f .cf3) (f .cf4 - h) (f .cf4) (sub-le (f .cf4) h))

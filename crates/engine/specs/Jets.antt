@@ -10,7 +10,7 @@ use Rattle.engine.specs.Formulas.{thrust-factor, exact-thrust-factor, burning}
 abbrev pub jet-rise : JetCoefficients → ℕ → ℕ
 jet-rise c h = c .ctc3 * (h * h) / 10 ^ 7
 
-abbrev pub exact-jet-rise : JetCoefficients → ℕ → ℚ
+unfoldable pub exact-jet-rise : JetCoefficients → ℕ → ℚ
 exact-jet-rise c h = nat (c .ctc3 * (h * h)) ÷ℚ nat (10 ^ 7)
 
 abbrev pub jet-thrust : JetCoefficients → ℕ → ℕ

@@ -3,3 +3,4 @@ pub mod Formulas
 pub mod Jets
 pub mod Turboprops
 pub mod Engines
+pub mod Examples

@@ -2,17 +2,15 @@
 ghost use mathlib.Core.Path.{_≡_};
 ghost use Rattle.engine.specs.Engines.{any-engine, engine-of};
 use crate::jet::Jet;
-use crate::jet::JetDebug;
 use crate::jet::JetKind;
 use crate::kind::Kind;
 use crate::turboprop::Turboprop;
-use crate::turboprop::TurbopropDebug;
 use crate::turboprop::TurbopropKind;
 use aircraft::record::Aircraft;
 use aircraft::record::Engine;
 use refusal::refusal::Refusal;
 
-#[derive(Clone, Copy, Debug)]
+#[derive(Clone, Copy)]
 pub enum AnyKind {
     Jet(Jet),
     Turboprop(Turboprop),

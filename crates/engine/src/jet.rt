@@ -11,10 +11,9 @@ use crate::formulas::thrust_factor;
 use crate::kind::Kind;
 use aircraft::record::Fuel;
 use aircraft::record::JetCoefficients;
-use aircraft::record::JetCoefficientsDebug;
 use refusal::refusal::Refusal;
 
-#[derive(Clone, Copy, Debug)]
+#[derive(Clone, Copy)]
 pub struct Jet {
     pub coefficients: JetCoefficients,
 }

@@ -1,7 +1,11 @@
 // Engine kinds: what a kind is, jets and turboprops, and the engine of an aircraft.
 pub mod any;
 mod asked;
+pub mod examples;
 mod formulas;
 pub mod jet;
 pub mod kind;
 pub mod turboprop;
+
+#[cfg(test)]
+mod tests;

@@ -13,10 +13,9 @@ use crate::formulas::thrust_factor;
 use crate::kind::Kind;
 use aircraft::record::Fuel;
 use aircraft::record::TurbopropCoefficients;
-use aircraft::record::TurbopropCoefficientsDebug;
 use refusal::refusal::Refusal;
 
-#[derive(Clone, Copy, Debug)]
+#[derive(Clone, Copy)]
 pub struct Turboprop {
     pub coefficients: TurbopropCoefficients,
 }

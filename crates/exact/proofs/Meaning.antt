@@ -2,9 +2,9 @@
 use mathlib.Core.Path.{_≡_, refl, ap}
 use Prim.Native.Nat.{ℕ, _+_, _*_}
 use native.Mathlib.Omega.{arith}
-use lib.IntN.{ℤ, pos, negsuc, _+ℤ_, _*ℤ_, negℤ}
+use lib.IntN.{ℤ, pos, negsuc, _+ℤ_, _*ℤ_}
 use borrow.Author.Differences.{ints, up, down, same-in, same-out, at-most-in, le-out, below-in, lt-out, product-is, sum-is}
-use Rattle.exact.specs.Rational.{ℚ, _≤ℚ_, _<ℚ_, _≈_, int, _+ℚ_, negℚ, _*ℚ_}
+use Rattle.exact.specs.Rational.{ℚ, int, _+ℚ_, _*ℚ_}
 use Rattle.exact.specs.Meaning.{numer, denom, As-fractions, Undoes-product, By-order}
 use Rattle.exact.proofs.Laws.{≤-trans, ≈-sym, near-out, near-in, ÷-*-not-zero, ÷-zero, min-left, min-right, ≤-min, left-max, right-max, max-≤, ≤-abs, neg-≤-abs, abs-≤}
 
@@ -27,23 +27,23 @@ product-of-fractions x y = same-in _ _ (omega (arith, numer-is (x *ℚ y), produ
 
 pub as-fractions : As-fractions
 as-fractions = record {
-    positive = λ x. omega (arith, ints);
-    whole = whole-number;
-    at-most = λ x y. (λ h. at-most-in _ _ (omega (arith, h .le, brought x y, brought y x)), λ h. record { le = omega (arith, le-out _ _ h, brought x y, brought y x) });
-    less = λ x y. (λ h. below-in _ _ (omega (arith, h .lt, brought x y, brought y x)), λ h. record { lt = omega (arith, lt-out _ _ h, brought x y, brought y x) });
-    equal = λ x y. (λ h. same-in _ _ (omega (arith, h .eq, brought x y, brought y x)), λ h. record { eq = omega (arith, same-out _ _ h, brought x y, brought y x) });
-    sum = λ x y. (sum-of-fractions x y, refl);
-    product = λ x y. (product-of-fractions x y, refl);
-    opposite = λ x. (omega (arith, ints), refl)
-  }
+  positive = λ x. omega (arith, ints);
+  whole = whole-number;
+  at-most = λ x y. (λ h. at-most-in _ _ (omega (arith, h .le, brought x y, brought y x)), λ h. record { le = omega (arith, le-out _ _ h, brought x y, brought y x) });
+  less = λ x y. (λ h. below-in _ _ (omega (arith, h .lt, brought x y, brought y x)), λ h. record { lt = omega (arith, lt-out _ _ h, brought x y, brought y x) });
+  equal = λ x y. (λ h. same-in _ _ (omega (arith, h .eq, brought x y, brought y x)), λ h. record { eq = omega (arith, same-out _ _ h, brought x y, brought y x) });
+  sum = λ x y. (sum-of-fractions x y, refl);
+  product = λ x y. (product-of-fractions x y, refl);
+  opposite = λ x. (omega (arith, ints), refl);
+}
 
 pub undoes-product : Undoes-product
 undoes-product = record { by-other = λ x y s. ÷-*-not-zero x (λ e. s (≈-sym e)); by-zero = λ x y e. ÷-zero x (≈-sym e) }
 
 pub by-order : By-order
 by-order = record {
-    least = λ x y z. (λ h. (≤-trans h (min-left x y), ≤-trans h (min-right x y)), λ h. ≤-min (h .0) (h .1));
-    greatest = λ x y z. (λ h. (≤-trans (left-max x y) h, ≤-trans (right-max x y) h), λ h. max-≤ (h .0) (h .1));
-    size = λ x z. (λ h. (≤-trans (≤-abs x) h, ≤-trans (neg-≤-abs x) h), λ h. abs-≤ (h .0) (h .1));
-    distance = λ x y e. (near-out, λ h. near-in (h .0) (h .1))
-  }
+  least = λ x y z. (λ h. (≤-trans h (min-left x y), ≤-trans h (min-right x y)), λ h. ≤-min (h .0) (h .1));
+  greatest = λ x y z. (λ h. (≤-trans (left-max x y) h, ≤-trans (right-max x y) h), λ h. max-≤ (h .0) (h .1));
+  size = λ x z. (λ h. (≤-trans (≤-abs x) h, ≤-trans (neg-≤-abs x) h), λ h. abs-≤ (h .0) (h .1));
+  distance = λ x y e. (near-out, λ h. near-in (h .0) (h .1));
+}

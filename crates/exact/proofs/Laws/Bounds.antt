@@ -2,62 +2,49 @@
 use mathlib.Core.Path.{_≡_, ap}
 use mathlib.Core.Logic.{_⊎_, inl, inr, ⊎-elim}
 use Prim.Native.Nat.{ℕ, _+_, _*_, _≤_}
-use native.Mathlib.Nat.{mul-le-mul-right}
+use native.Mathlib.Nat.{mul-pos, mul-le-mul-right}
 use native.Mathlib.Omega.{arith}
 use Rattle.exact.specs.Rational.{ℚ, _≤ℚ_, _≈_, nat, negℚ, minℚ, maxℚ, absℚ}
 use Rattle.exact.proofs.Laws.Order.{≤-trans, ≤-antisym, ≈→≤, ≈→≥, either-≤}
 
 -- Least and greatest.
 
+-- x and y brought to one denominator, so that only `plus` tells them apart, and a number with n in its place
+abbrev place : ℚ → ℚ → ℕ
+place x y = x .plus * y .den + y .minus * x .den
+
+abbrev placed : ℚ → ℚ → ℕ → ℚ
+placed x y n = record { plus = n; minus = x .minus * y .den + y .minus * x .den; den = x .den * y .den; positive = mul-pos (x .positive) (y .positive) }
+
+below-left : (x y : ℚ) {n : ℕ} → n ≤ place x y → placed x y n ≤ℚ x
+below-left x y h = record { le = omega (arith, mul-le-mul-right (x .den) h) }
+
+above-left : (x y : ℚ) {n : ℕ} → place x y ≤ n → x ≤ℚ placed x y n
+above-left x y h = record { le = omega (arith, mul-le-mul-right (x .den) h) }
+
+below-right : (x y : ℚ) {n : ℕ} → n ≤ place y x → placed x y n ≤ℚ y
+below-right x y h = record { le = omega (arith, mul-le-mul-right (y .den) h) }
+
+above-right : (x y : ℚ) {n : ℕ} → place y x ≤ n → y ≤ℚ placed x y n
+above-right x y h = record { le = omega (arith, mul-le-mul-right (y .den) h) }
+
 pub min-left : (x y : ℚ) → minℚ x y ≤ℚ x
-min-left x y = record { le = omega (arith, mul-le-mul-right (x .den) less) }
-  where
-    less : minℚ x y .plus ≤ x .plus * y .den + y .minus * x .den
-    less = omega arith
+min-left x y = below-left x y (omega arith)
 
 pub min-right : (x y : ℚ) → minℚ x y ≤ℚ y
-min-right x y = record { le = omega (arith, mul-le-mul-right (y .den) less) }
-  where
-    less : minℚ x y .plus ≤ y .plus * x .den + x .minus * y .den
-    less = omega arith
-
-pub min-either : (x y : ℚ) → (minℚ x y ≈ x) ⊎ (minℚ x y ≈ y)
-min-either x y =
-    ⊎-elim
-      (λ h. inl (record { eq = omega (arith, ap (λ (n : ℕ). n * x .den) (first h)) }))
-      (λ h. inr (record { eq = omega (arith, ap (λ (n : ℕ). n * y .den) (second h)) }))
-      (either-≤ (x .plus * y .den + y .minus * x .den) (y .plus * x .den + x .minus * y .den))
-  where
-    first : x .plus * y .den + y .minus * x .den ≤ y .plus * x .den + x .minus * y .den → minℚ x y .plus ≡ x .plus * y .den + y .minus * x .den
-    first h = omega arith
-
-    second : y .plus * x .den + x .minus * y .den ≤ x .plus * y .den + y .minus * x .den → minℚ x y .plus ≡ y .plus * x .den + x .minus * y .den
-    second h = omega arith
+min-right x y = below-right x y (omega arith)
 
 pub left-max : (x y : ℚ) → x ≤ℚ maxℚ x y
-left-max x y = record { le = omega (arith, mul-le-mul-right (x .den) less) }
-  where
-    less : x .plus * y .den + y .minus * x .den ≤ maxℚ x y .plus
-    less = omega arith
+left-max x y = above-left x y (omega arith)
 
 pub right-max : (x y : ℚ) → y ≤ℚ maxℚ x y
-right-max x y = record { le = omega (arith, mul-le-mul-right (y .den) less) }
-  where
-    less : y .plus * x .den + x .minus * y .den ≤ maxℚ x y .plus
-    less = omega arith
+right-max x y = above-right x y (omega arith)
+
+pub min-either : (x y : ℚ) → (minℚ x y ≈ x) ⊎ (minℚ x y ≈ y)
+min-either x y = ⊎-elim (λ h. inl (≤-antisym (min-left x y) (above-left x y (omega arith)))) (λ h. inr (≤-antisym (min-right x y) (above-right x y (omega arith)))) (either-≤ (place x y) (place y x))
 
 pub max-either : (x y : ℚ) → (maxℚ x y ≈ x) ⊎ (maxℚ x y ≈ y)
-max-either x y =
-    ⊎-elim
-      (λ h. inr (record { eq = omega (arith, ap (λ (n : ℕ). n * y .den) (second h)) }))
-      (λ h. inl (record { eq = omega (arith, ap (λ (n : ℕ). n * x .den) (first h)) }))
-      (either-≤ (x .plus * y .den + y .minus * x .den) (y .plus * x .den + x .minus * y .den))
-  where
-    first : y .plus * x .den + x .minus * y .den ≤ x .plus * y .den + y .minus * x .den → maxℚ x y .plus ≡ x .plus * y .den + y .minus * x .den
-    first h = omega arith
-
-    second : x .plus * y .den + y .minus * x .den ≤ y .plus * x .den + x .minus * y .den → maxℚ x y .plus ≡ y .plus * x .den + x .minus * y .den
-    second h = omega arith
+max-either x y = ⊎-elim (λ h. inr (≤-antisym (below-right x y (omega arith)) (right-max x y))) (λ h. inl (≤-antisym (below-left x y (omega arith)) (left-max x y))) (either-≤ (place x y) (place y x))
 
 pub ≤-min : {x y z : ℚ} → z ≤ℚ x → z ≤ℚ y → z ≤ℚ minℚ x y
 ≤-min {x} {y} h k = ⊎-elim (λ e. ≤-trans h (≈→≥ e)) (λ e. ≤-trans k (≈→≥ e)) (min-either x y)
@@ -94,9 +81,9 @@ neg-≤-abs x = record { le = omega (arith, mul-le-mul-right (x .den) less) }
 pub abs-either : (x : ℚ) → (absℚ x ≈ x) ⊎ (absℚ x ≈ negℚ x)
 abs-either x =
     ⊎-elim
-      (λ h. inr (record { eq = omega (arith, ap (λ (n : ℕ). n * x .den) (below h)) }))
-      (λ h. inl (record { eq = omega (arith, ap (λ (n : ℕ). n * x .den) (above h)) }))
-      (either-≤ (x .plus) (x .minus))
+    (λ h. inr (record { eq = omega (arith, ap (λ (n : ℕ). n * x .den) (below h)) }))
+    (λ h. inl (record { eq = omega (arith, ap (λ (n : ℕ). n * x .den) (above h)) }))
+    (either-≤ (x .plus) (x .minus))
   where
     below : x .plus ≤ x .minus → absℚ x .plus + x .plus ≡ x .minus
     below h = omega arith

@@ -8,7 +8,7 @@ use Rattle.std.specs.Numbers.{divEuclid}
 use Rattle.exact.specs.Rational.{ℚ, _≤ℚ_, _<ℚ_, _≈_, nat, int, _+ℚ_, _-ℚ_, _*ℚ_, _÷ℚ_, minℚ, maxℚ, Near}
 use Rattle.exact.proofs.Laws.Order.{≤-refl, ≤-trans, ≈-refl, ≈→≤, ≈→≥, near-out, near-in}
 use Rattle.exact.proofs.Laws.Whole.{nat-<}
-use Rattle.exact.proofs.Laws.Products.{+-*, +-mono, *-mono}
+use Rattle.exact.proofs.Laws.Products.{*-comm, +-*, +-mono, *-mono}
 use Rattle.exact.proofs.Laws.Quotients.{÷-mono, +-÷, floor-low, floor-high, int-floor-low, int-floor-high}
 use Rattle.exact.proofs.Laws.Bounds.{min-left, min-right, min-either, left-max, right-max, max-≤}
 use Rattle.exact.proofs.Linear.{linear, at, con, _⊕_, _⊖_, _≼_, _≋_, near}
@@ -44,6 +44,12 @@ near-− {x} {y} {x′} {y′} {e} {e′} m n = linear (x ∷ y ∷ x′ ∷ y�
 pub near-* : {x y e : ℚ} (z : ℚ) → nat 0 ≤ℚ z → Near x y e → Near (x *ℚ z) (y *ℚ z) (e *ℚ z)
 near-* {x} {y} {e} z s n = near-in (≤-trans (*-mono z s (near-out n .0)) (≈→≤ (+-* y e z))) (≤-trans (*-mono z s (near-out n .1)) (≈→≤ (+-* x e z)))
 
+pub near-*-left : {x y e : ℚ} (z : ℚ) → nat 0 ≤ℚ z → Near x y e → Near (z *ℚ x) (z *ℚ y) (z *ℚ e)
+near-*-left {x} {y} {e} z s n = near-weaken (near-≈ (*-comm z x) (*-comm z y) (near-* z s n)) (≈→≤ (*-comm e z))
+
+pub near-product : {x y x′ y′ e e′ : ℚ} → nat 0 ≤ℚ x′ → nat 0 ≤ℚ y → Near x y e → Near x′ y′ e′ → Near (x *ℚ x′) (y *ℚ y′) (e *ℚ x′ +ℚ y *ℚ e′)
+near-product {y = y} {x′ = x′} s t m n = near-trans (near-* x′ s m) (near-*-left y t n)
+
 pub near-÷ : {x y e : ℚ} (z : ℚ) → nat 0 <ℚ z → Near x y e → Near (x ÷ℚ z) (y ÷ℚ z) (e ÷ℚ z)
 near-÷ {x} {y} {e} z s n = near-in (≤-trans (÷-mono s (near-out n .0)) (≈→≥ (+-÷ y e z))) (≤-trans (÷-mono s (near-out n .1)) (≈→≥ (+-÷ x e z)))
 
@@ -55,9 +61,9 @@ near-min {x} {y} {x′} {y′} {e} m n = near-in (less m n) (less (near-sym m) (
     less : {a b a′ b′ : ℚ} → Near a b e → Near a′ b′ e → minℚ a a′ ≤ℚ minℚ b b′ +ℚ e
     less {a} {b} {a′} {b′} m n =
         ⊎-elim
-          (λ q. ≤-trans (min-left a a′) (≤-trans (near-out m .0) (+-mono (≈→≥ q) (≤-refl e))))
-          (λ q. ≤-trans (min-right a a′) (≤-trans (near-out n .0) (+-mono (≈→≥ q) (≤-refl e))))
-          (min-either b b′)
+        (λ q. ≤-trans (min-left a a′) (≤-trans (near-out m .0) (+-mono (≈→≥ q) (≤-refl e))))
+        (λ q. ≤-trans (min-right a a′) (≤-trans (near-out n .0) (+-mono (≈→≥ q) (≤-refl e))))
+        (min-either b b′)
 
 pub near-max : {x y x′ y′ e : ℚ} → Near x y e → Near x′ y′ e → Near (maxℚ x x′) (maxℚ y y′) e
 near-max {x} {y} {x′} {y′} {e} m n = near-in (less m n) (less (near-sym m) (near-sym n))
@@ -65,8 +71,8 @@ near-max {x} {y} {x′} {y′} {e} m n = near-in (less m n) (less (near-sym m) (
     less : {a b a′ b′ : ℚ} → Near a b e → Near a′ b′ e → maxℚ a a′ ≤ℚ maxℚ b b′ +ℚ e
     less {a} {b} {a′} {b′} m n =
         max-≤
-          (≤-trans (near-out m .0) (+-mono (left-max b b′) (≤-refl e)))
-          (≤-trans (near-out n .0) (+-mono (right-max b b′) (≤-refl e)))
+        (≤-trans (near-out m .0) (+-mono (left-max b b′) (≤-refl e)))
+        (≤-trans (near-out n .0) (+-mono (right-max b b′) (≤-refl e)))
 
 pub near-min-with : {x y e : ℚ} (c : ℚ) → Near x y e → Near (minℚ c x) (minℚ c y) e
 near-min-with c n = near-min (near-same (≈-refl c) (near-≥0 n)) n

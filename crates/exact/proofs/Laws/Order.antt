@@ -1,11 +1,11 @@
 -- The order of the exact numbers, their equality, and nearness as two inequalities.
-use mathlib.Core.Path.{_≡_, ap}
+use mathlib.Core.Path.{_≡_, ap, subst}
 use mathlib.Core.Logic.{_⊎_, inl, inr, ⊎-elim}
-use Prim.Native.Nat.{ℕ, _+_, _-_, _*_, _<_, _≤_}
-use native.Mathlib.Nat.{mul-le-mul-right, le-of-mul-le-mul-right, lt-of-mul-lt-mul-right, mul-lt-mul-of-pos-right, eq-of-mul-eq-mul-right}
+use Prim.Native.Nat.{ℕ, _+_, _-_, _*_, _≤_}
+use native.Mathlib.Nat.{mul-le-mul-right, le-of-mul-le-mul-right, lt-of-mul-lt-mul-right, mul-lt-mul-of-pos-right}
 use native.Mathlib.Decide.{decLe}
 use native.Mathlib.Omega.{arith}
-use Rattle.exact.specs.Rational.{ℚ, _≤ℚ_, _<ℚ_, _≈_, nat, _+ℚ_, _-ℚ_, absℚ, Near}
+use Rattle.exact.specs.Rational.{ℚ, _≤ℚ_, _<ℚ_, _≈_, _+ℚ_, _-ℚ_, absℚ, Near}
 
 pub ≤-refl : (x : ℚ) → x ≤ℚ x
 ≤-refl x = omega arith
@@ -28,6 +28,9 @@ pub ≈-refl : (x : ℚ) → x ≈ x
 
 pub ≈-sym : {x y : ℚ} → x ≈ y → y ≈ x
 ≈-sym h = omega arith
+
+pub ≡→≈ : {x y : ℚ} → x ≡ y → x ≈ y
+≡→≈ {x} h = subst (λ (z : ℚ). x ≈ z) h (≈-refl x)
 
 pub ≈→≤ : {x y : ℚ} → x ≈ y → x ≤ℚ y
 ≈→≤ h = omega arith

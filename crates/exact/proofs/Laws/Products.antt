@@ -2,7 +2,7 @@
 use mathlib.Core.Path.{_≡_, ap}
 use mathlib.Core.List.{[], _∷_}
 use Prim.Native.Nat.{ℕ, _+_, _-_, _*_, _<_, _≤_}
-use native.Mathlib.Nat.{mul-le-mul-right, le-of-mul-le-mul-right, eq-of-mul-eq-mul-right}
+use native.Mathlib.Nat.{mul-le-mul-right, le-of-mul-le-mul-right, mul-lt-mul-of-pos-right, eq-of-mul-eq-mul-right}
 use native.Mathlib.Omega.{arith}
 use Rattle.exact.specs.Rational.{ℚ, _≤ℚ_, _<ℚ_, _≈_, nat, _+ℚ_, _-ℚ_, negℚ, _*ℚ_}
 use Rattle.exact.proofs.Laws.Order.{≤-trans, ≤-antisym, ≈-trans, ≈→≤, ≈→≥}
@@ -32,6 +32,9 @@ pub *-one : (x : ℚ) → nat 1 *ℚ x ≈ x
 pub *-zero : (x : ℚ) → x *ℚ nat 0 ≈ nat 0
 *-zero x = omega arith
 
+pub zero-* : (x : ℚ) → nat 0 *ℚ x ≈ nat 0
+zero-* x = omega arith
+
 pub neg-* : (x y : ℚ) → negℚ x *ℚ y ≈ negℚ (x *ℚ y)
 neg-* x y = omega arith
 
@@ -59,6 +62,12 @@ cross {a} {b} {c} {d} h k = omega (arith, ap (λ (n : ℕ). a * n) rest, ap (λ 
     rest : d ≡ c + (d - c)
     rest = omega arith
 
+cross-< : {a b c d : ℕ} → a < b → c < d → b * c + a * d < b * d + a * c
+cross-< {a} {b} {c} {d} h k = omega (arith, ap (λ (n : ℕ). a * n) rest, ap (λ (n : ℕ). b * n) rest, mul-lt-mul-of-pos-right {k = d - c} h (omega arith))
+  where
+    rest : d ≡ c + (d - c)
+    rest = omega arith
+
 pub +-mono : {x y x′ y′ : ℚ} → x ≤ℚ x′ → y ≤ℚ y′ → x +ℚ y ≤ℚ x′ +ℚ y′
 +-mono {x} {y} {x′} {y′} h k = linear (x ∷ y ∷ x′ ∷ y′ ∷ []) (at 0 ≼ at 2 ∷ at 1 ≼ at 3 ∷ []) (at 0 ⊕ at 1 ≼ at 2 ⊕ at 3) (λ d u w p h. omega arith) (h, (k, tt))
 
@@ -67,6 +76,9 @@ pub −-mono : {x y x′ y′ : ℚ} → x ≤ℚ x′ → y′ ≤ℚ y → x -
 
 pub neg-mono : {x y : ℚ} → x ≤ℚ y → negℚ y ≤ℚ negℚ x
 neg-mono h = omega (arith, h .le)
+
+pub neg-≈ : {x y : ℚ} → x ≈ y → negℚ x ≈ negℚ y
+neg-≈ h = omega (arith, h .eq)
 
 pub +-≈ : {x y x′ y′ : ℚ} → x ≈ x′ → y ≈ y′ → x +ℚ y ≈ x′ +ℚ y′
 +-≈ h k = ≤-antisym (+-mono (≈→≤ h) (≈→≤ k)) (+-mono (≈→≥ h) (≈→≥ k))
@@ -87,7 +99,13 @@ pub *-mono₂ : {x y x′ y′ : ℚ} → nat 0 ≤ℚ x → nat 0 ≤ℚ y′ �
 *-mono₂ {x} {y} {x′} {y′} s t h k = ≤-trans (*-mono-left x s k) (*-mono y′ t h)
 
 pub *-≥0 : {x y : ℚ} → nat 0 ≤ℚ x → nat 0 ≤ℚ y → nat 0 ≤ℚ x *ℚ y
-*-≥0 {x} {y} s t = ≤-trans (≈→≥ (≈-trans (*-comm (nat 0) y) (*-zero y))) (*-mono y t s)
+*-≥0 {x} {y} s t = ≤-trans (≈→≥ (zero-* y)) (*-mono y t s)
+
+pub *-pos : {x y : ℚ} → nat 0 <ℚ x → nat 0 <ℚ y → nat 0 <ℚ x *ℚ y
+*-pos {x} {y} s t = record { lt = omega (arith, uncrossed) }
+  where
+    uncrossed : x .plus * y .minus + x .minus * y .plus < x .plus * y .plus + x .minus * y .minus
+    uncrossed = cross-< (omega (arith, s .lt)) (omega (arith, t .lt))
 
 pub *-≈ : {x y x′ y′ : ℚ} → x ≈ x′ → y ≈ y′ → x *ℚ y ≈ x′ *ℚ y′
 *-≈ {x} {y} {x′} {y′} h k = ≈-trans (onto y h) (≈-trans (*-comm x′ y) (≈-trans (onto x′ k) (*-comm y′ x′)))

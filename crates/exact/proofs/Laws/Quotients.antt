@@ -9,9 +9,9 @@ use native.Mathlib.Omega.{arith}
 use lib.IntN.{ℤ, pos, negsuc}
 use Rattle.std.specs.Numbers.{divEuclid}
 use Rattle.exact.specs.Rational.{ℚ, _≤ℚ_, _<ℚ_, _≈_, nat, int, _+ℚ_, _-ℚ_, negℚ, _*ℚ_, _÷ℚ_, times-over}
-use Rattle.exact.proofs.Laws.Order.{≤-trans, ≤-antisym, ≈-refl, ≈-sym, ≈-trans, ≈→≤, ≈→≥, <-≤-trans, <-or-≥}
+use Rattle.exact.proofs.Laws.Order.{≤-trans, ≤-antisym, ≈-refl, ≈-sym, ≈-trans, ≈→≤, ≈→≥, <→≤, <-≤-trans, <-or-≥, <→≱}
 use Rattle.exact.proofs.Laws.Whole.{nat-<}
-use Rattle.exact.proofs.Laws.Products.{≈-by, *-comm, *-assoc, *-zero, neg-*, +-*, +-≈, *-mono-left, *-≈, *-cancel}
+use Rattle.exact.proofs.Laws.Products.{≈-by, *-comm, *-assoc, *-zero, zero-*, neg-*, +-*, +-≈, *-mono, *-mono-left, *-≈, *-cancel}
 use Rattle.exact.proofs.Linear.{linear, at, con, _⊕_, neg, _≋_}
 
 pub zero-or-not : (y : ℚ) → (nat 0 ≈ y) ⊎ (¬ (nat 0 ≈ y))
@@ -56,7 +56,10 @@ pub ÷-mono : {x x′ y : ℚ} → nat 0 <ℚ y → x ≤ℚ x′ → x ÷ℚ y 
 ÷-mono {x} s h = ≤-÷ s (≤-trans (≈→≤ (÷-* x s)) h)
 
 pub ÷-≥0 : {x y : ℚ} → nat 0 <ℚ y → nat 0 ≤ℚ x → nat 0 ≤ℚ x ÷ℚ y
-÷-≥0 {x} {y} s h = ≤-÷ s (≤-trans (≈→≤ (≈-trans (*-comm (nat 0) y) (*-zero y))) h)
+÷-≥0 {x} {y} s h = ≤-÷ s (≤-trans (≈→≤ (zero-* y)) h)
+
+pub ÷-pos : {x y : ℚ} → nat 0 <ℚ y → nat 0 <ℚ x → nat 0 <ℚ x ÷ℚ y
+÷-pos {x} {y} s h = ⊎-elim (λ p. p) (λ n. absurd (<→≱ h (≤-trans (≈→≥ (÷-* x s)) (≤-trans (*-mono y (<→≤ s) n) (≈→≤ (zero-* y)))))) (<-or-≥ (nat 0) (x ÷ℚ y))
 
 -- by a greater divisor less
 pub ÷-falls : {x y y′ : ℚ} → nat 0 ≤ℚ x → nat 0 <ℚ y → y ≤ℚ y′ → x ÷ℚ y′ ≤ℚ x ÷ℚ y
@@ -81,6 +84,13 @@ pub *-cancel-≈ : {x z y : ℚ} → ¬ (nat 0 ≈ y) → x *ℚ y ≈ z *ℚ y 
 -- what times the divisor is the dividend is the quotient
 pub ÷-unique : {x y z : ℚ} → ¬ (nat 0 ≈ y) → z *ℚ y ≈ x → z ≈ x ÷ℚ y
 ÷-unique {x} s h = *-cancel-≈ s (≈-trans h (≈-sym (÷-*-not-zero x s)))
+
+-- a product is zero only by a factor
+pub *-not-zero : {x y : ℚ} → ¬ (nat 0 ≈ x) → ¬ (nat 0 ≈ y) → ¬ (nat 0 ≈ x *ℚ y)
+*-not-zero {x} {y} s t e = s (*-cancel-≈ t (≈-trans (zero-* y) e))
+
+pub zero-÷ : (y : ℚ) → nat 0 ÷ℚ y ≈ nat 0
+zero-÷ y = ⊎-elim (λ e. ÷-zero (nat 0) e) (λ s. ≈-sym (÷-unique s (zero-* y))) (zero-or-not y)
 
 pub ÷-≈ : {x y x′ y′ : ℚ} → x ≈ x′ → y ≈ y′ → x ÷ℚ y ≈ x′ ÷ℚ y′
 ÷-≈ {x} {y} {x′} {y′} h k = ⊎-elim none some (zero-or-not y)
@@ -120,6 +130,21 @@ neg-÷ x y = ⊎-elim none some (zero-or-not y)
 
 pub −-÷ : (x z y : ℚ) → x ÷ℚ y -ℚ z ÷ℚ y ≈ (x -ℚ z) ÷ℚ y
 −-÷ x z y = ≈-trans (+-≈ (≈-refl (x ÷ℚ y)) (neg-÷ z y)) (+-÷ x (negℚ z) y)
+
+pub ÷-one : (x : ℚ) → x ÷ℚ nat 1 ≈ x
+÷-one x = omega arith
+
+pub ÷-÷ : (x y z : ℚ) → (x ÷ℚ y) ÷ℚ z ≈ x ÷ℚ (y *ℚ z)
+÷-÷ x y z = ⊎-elim (λ e. none-left e) (λ s. ⊎-elim (λ e. none-right e) (λ t. some s t) (zero-or-not z)) (zero-or-not y)
+  where
+    none-left : nat 0 ≈ y → (x ÷ℚ y) ÷ℚ z ≈ x ÷ℚ (y *ℚ z)
+    none-left e = ≈-trans (÷-≈ (÷-zero x e) (≈-refl z)) (≈-trans (zero-÷ z) (≈-sym (÷-zero x (≈-trans (≈-sym (zero-* z)) (*-≈ e (≈-refl z))))))
+
+    none-right : nat 0 ≈ z → (x ÷ℚ y) ÷ℚ z ≈ x ÷ℚ (y *ℚ z)
+    none-right e = ≈-trans (÷-zero (x ÷ℚ y) e) (≈-sym (÷-zero x (≈-trans (≈-sym (*-zero y)) (*-≈ (≈-refl y) e))))
+
+    some : ¬ (nat 0 ≈ y) → ¬ (nat 0 ≈ z) → (x ÷ℚ y) ÷ℚ z ≈ x ÷ℚ (y *ℚ z)
+    some s t = ÷-unique (*-not-zero s t) (≈-trans (*-≈ (≈-refl ((x ÷ℚ y) ÷ℚ z)) (*-comm y z)) (≈-trans (≈-sym (*-assoc ((x ÷ℚ y) ÷ℚ z) z y)) (≈-trans (*-≈ (÷-*-not-zero (x ÷ℚ y) t) (≈-refl y)) (÷-*-not-zero x s))))
 
 -- Floors.
 
