@@ -1,4 +1,4 @@
--- A value between two levels keeps each bound that both levels keep.
+-- A value between two levels lies in every range in which both levels lie.
 use mathlib.Core.Path.{_≡_}
 use mathlib.Core.Logic.{_⊎_, inl, inr, _↔_}
 use Prim.Native.Nat.{ℕ, zero, suc, _-_, _*_, _/_, _≤_, _<_}
@@ -9,6 +9,10 @@ use lib.Signed.{_≤ℤ_}
 use Rattle.std.specs.Numbers.{divEuclid}
 use Rattle.std.proofs.shelf.Signed.{ints}
 use Rattle.air.specs.Between.{between}
+
+pub record Inside (lo hi z : ℤ) : Type 0 where
+  pub low : lo ≤ℤ z
+  pub high : z ≤ℤ hi
 
 -- the part t/n of a whole d, rounded down, lies between 0 and d
 abbrev Part : ℤ → ℤ → Type 0
@@ -24,18 +28,11 @@ part (pos a) t n p h =
     let z : a * t / n ≤ a = div-le-of-le-mul n (omega (arith, mul-le-mul-left a h)) in inl (omega (arith, ints), omega (arith, ints))
 part (negsuc a) t n p h = part-of-fall (suc a * t) n a p (mul-le-mul-left (suc a) h)
 
-low-part : (lo x0 x1 q : ℤ) → lo ≤ℤ x0 → lo ≤ℤ x1 → Part (x1 -ℤ x0) q → lo ≤ℤ (x0 +ℤ q)
-low-part lo x0 x1 q p p′ (inl h) = omega (arith, ints)
-low-part lo x0 x1 q p p′ (inr h) = omega (arith, ints)
+inside-part : (lo hi x0 x1 q : ℤ) → Inside lo hi x0 → Inside lo hi x1 → Part (x1 -ℤ x0) q → Inside lo hi (x0 +ℤ q)
+inside-part lo hi x0 x1 q a b (inl p) = record { low = omega (arith, ints); high = omega (arith, ints) }
+inside-part lo hi x0 x1 q a b (inr p) = record { low = omega (arith, ints); high = omega (arith, ints) }
 
-high-part : (hi x0 x1 q : ℤ) → x0 ≤ℤ hi → x1 ≤ℤ hi → Part (x1 -ℤ x0) q → (x0 +ℤ q) ≤ℤ hi
-high-part hi x0 x1 q p p′ (inl h) = omega (arith, ints)
-high-part hi x0 x1 q p p′ (inr h) = omega (arith, ints)
-
-pub between-low : (lo x0 x1 : ℤ) (h0 h1 h : ℕ) → h0 < h1 → h ≤ h1 → lo ≤ℤ x0 → lo ≤ℤ x1 → lo ≤ℤ between x0 x1 h0 h1 h
-between-low lo x0 x1 h0 h1 h p q l l′ =
-    low-part lo x0 x1 (divEuclid ((x1 -ℤ x0) *ℤ pos (h - h0)) (pos (h1 - h0))) l l′ (part (x1 -ℤ x0) (h - h0) (h1 - h0) (omega arith) (omega arith))
-
-pub between-high : (hi x0 x1 : ℤ) (h0 h1 h : ℕ) → h0 < h1 → h ≤ h1 → x0 ≤ℤ hi → x1 ≤ℤ hi → between x0 x1 h0 h1 h ≤ℤ hi
-between-high hi x0 x1 h0 h1 h p q l l′ =
-    high-part hi x0 x1 (divEuclid ((x1 -ℤ x0) *ℤ pos (h - h0)) (pos (h1 - h0))) l l′ (part (x1 -ℤ x0) (h - h0) (h1 - h0) (omega arith) (omega arith))
+pub between-inside : {lo hi : ℤ} (x0 x1 : ℤ) (h0 h1 h : ℕ) → h0 < h1 → h ≤ h1 → Inside lo hi x0 → Inside lo hi x1 → Inside lo hi (between x0 x1 h0 h1 h)
+between-inside {lo} {hi} x0 x1 h0 h1 h p q a b =
+    inside-part lo hi x0 x1 (divEuclid ((x1 -ℤ x0) *ℤ pos (h - h0)) (pos (h1 - h0))) a b
+    (part (x1 -ℤ x0) (h - h0) (h1 - h0) (omega arith) (omega arith))

@@ -9,8 +9,8 @@ use mir.Syntax.{w64}
 use mir.Val.{SFits, toZ, ofZ}
 use Rattle.std.specs.Numbers.{divEuclid}
 use Rattle.std.proofs.shelf.Signed.{ints, toZ-ofZ, toZ-pos}
-use Rattle.air.specs.Between.{between}
-use Rattle.air.proofs.Between.{between-low, between-high}
+use Rattle.air.specs.Between.{between, Neighbours}
+use Rattle.air.proofs.Between.{Inside, between-inside}
 
 -- a number as 64 bits hold it
 abbrev word : ℤ → ℤ
@@ -29,46 +29,42 @@ product-fits (pos a) t p q = small-fits (pos (a * t)) (mul-le-mul {n₂ = 300000
 product-fits (negsuc a) t p q =
     small-fits (negsuc a *ℤ pos t) (omega (arith, abs-of-fall (suc a * t), mul-le-mul {n₂ = 300000} {m₂ = 60000} p q))
 
-within : (z : ℤ) → negsuc 149999 ≤ℤ z → z ≤ℤ pos 150000 → SFits w64 z
-within z l h = small-fits z (omega (arith, ints))
+inside-fits : (z : ℤ) → Inside (negsuc 149999) (pos 150000) z → SFits w64 z
+inside-fits z i = small-fits z (omega (arith, ints))
 
-module _ (x0 x1 : ℤ) (h0 h1 h : ℕ) (first : natAbs x0 ≤ 150000) (second : natAbs x1 ≤ 150000) (from : h0 ≤ h) (to : h < h1) (top : h1 ≤ 60000) where
+module _ {x0 x1 : ℤ} {h0 h1 h : ℕ} (n : Neighbours x0 x1 h0 h1 h) where
   difference-small : natAbs (x1 -ℤ x0) ≤ 300000
   difference-small = omega (arith, ints)
 
   -- the rise as the code works it out
-  abbrev pub rise : ℤ
+  abbrev rise : ℤ
   rise = word (word x1 -ℤ word x0) *ℤ toZ w64 (h - h0)
+
+  lower-held : word x0 ≡ x0
+  lower-held = toZ-ofZ w64 x0 (small-fits x0 (omega arith))
 
   exact-rise : rise ≡ (x1 -ℤ x0) *ℤ pos (h - h0)
   exact-rise =
-      let f0 = toZ-ofZ w64 x0 (small-fits x0 (omega arith)) in
-      let f1 = toZ-ofZ w64 x1 (small-fits x1 (omega arith)) in
-      let f = toZ-ofZ w64 (x1 -ℤ x0) (small-fits (x1 -ℤ x0) (omega (arith, difference-small))) in
-      let t = toZ-pos w64 (h - h0) (omega arith) in
-      rw (f1, f0, f, t)
+      let upper = toZ-ofZ w64 x1 (small-fits x1 (omega arith)) in
+      let both = toZ-ofZ w64 (x1 -ℤ x0) (small-fits (x1 -ℤ x0) (omega (arith, difference-small))) in
+      rw (upper, lower-held, both, toZ-pos w64 (h - h0) (omega arith))
 
   pub rise-fits : SFits w64 rise
   rise-fits =
       let P : ℤ → Type 0 = SFits w64 in
       subst P (sym exact-rise) (product-fits (x1 -ℤ x0) (h - h0) difference-small (omega arith))
 
-  -- q is the rise rounded down
-  module _ (q : ℤ) (fits : SFits w64 q) (part : q ≡ divEuclid (word rise) (toZ w64 (h1 - h0))) where
-    exact-part : q ≡ divEuclid ((x1 -ℤ x0) *ℤ pos (h - h0)) (pos (h1 - h0))
-    exact-part = part ∙ rw (toZ-ofZ w64 rise rise-fits, exact-rise, toZ-pos w64 (h1 - h0) (omega arith))
+  between-fits : SFits w64 (between x0 x1 h0 h1 h)
+  between-fits =
+      inside-fits (between x0 x1 h0 h1 h)
+      (between-inside x0 x1 h0 h1 h (omega arith) (omega arith) (record { low = omega (arith, ints); high = omega (arith, ints) }) (record { low = omega (arith, ints); high = omega (arith, ints) }))
 
+  -- q is the quotient that the code adds
+  module _ {q : ℤ} (fits : SFits w64 q) (part : q ≡ divEuclid (word rise) (pos (h1 - h0))) where
     exact-sum : word x0 +ℤ word q ≡ between x0 x1 h0 h1 h
     exact-sum =
-        let f0 = toZ-ofZ w64 x0 (small-fits x0 (omega arith)) in
-        let f = toZ-ofZ w64 q fits in
-        rw (f0, f) (ap (λ (z : ℤ). x0 +ℤ z) exact-part)
-
-    between-fits : SFits w64 (between x0 x1 h0 h1 h)
-    between-fits =
-        let low : negsuc 149999 ≤ℤ between x0 x1 h0 h1 h = between-low (negsuc 149999) x0 x1 h0 h1 h (omega arith) (omega arith) (omega (arith, ints)) (omega (arith, ints)) in
-        let high : between x0 x1 h0 h1 h ≤ℤ pos 150000 = between-high (pos 150000) x0 x1 h0 h1 h (omega arith) (omega arith) (omega (arith, ints)) (omega (arith, ints)) in
-        within (between x0 x1 h0 h1 h) low high
+        rw (lower-held, toZ-ofZ w64 q fits)
+        (ap (λ (z : ℤ). x0 +ℤ z) (part ∙ rw (toZ-ofZ w64 rise rise-fits, exact-rise)))
 
     pub sum-fits : SFits w64 (word x0 +ℤ word q)
     sum-fits = let P : ℤ → Type 0 = SFits w64 in subst P (sym exact-sum) between-fits

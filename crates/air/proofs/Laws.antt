@@ -12,55 +12,44 @@ use Rattle.air.specs.Between.{between}
 use Rattle.air.specs.Standard.{level, standard-density, standard-air, Counted}
 use Rattle.air.specs.Days.{bench-air}
 use Rattle.air.specs.declared.bench.Bench.{Bench}
-use Rattle.air.proofs.Between.{between-low, between-high}
+use Rattle.air.proofs.Between.{Inside, between-inside}
 use Rattle.air.proofs.Table.{level-bounds}
 
 either-way : (P : ℤ → Type 0) (b : Bool) (x y : ℤ) → (T b → P x) → P y → P (cond b x y)
 either-way P true x y p q = p tt
 either-way P false x y p q = q
 
-module _ (h : ℕ) where
-  abbrev line : ℤ
-  line = between (pos (level (h / 1000))) (pos (level (h / 1000 + 1))) (1000 * (h / 1000)) (1000 * (h / 1000 + 1)) h
+level-inside : (k : ℕ) → k < 61 → Inside (pos 5000) (pos 150000) (pos (level k))
+level-inside k p = let b = level-bounds k p in record { low = omega (arith, ints); high = omega (arith, ints) }
 
-  pub standard-low : pos 5000 ≤ℤ standard-density h
-  unfolding standard-density
-  standard-low =
-      either-way (λ z. pos 5000 ≤ℤ z) (ltb h 60000) line (pos (level 60))
-      (λ t. let p = ltb→lt h 60000 t in
-        let a = level-bounds (h / 1000) (omega arith) in
-        let b = level-bounds (h / 1000 + 1) (omega arith) in
-        between-low (pos 5000) (pos (level (h / 1000))) (pos (level (h / 1000 + 1))) (1000 * (h / 1000)) (1000 * (h / 1000 + 1)) h (omega arith) (omega arith) (omega (arith, ints)) (omega (arith, ints)))
-      (let a = level-bounds 60 (omega arith) in omega (arith, ints))
+pub standard-inside : (h : ℕ) → Inside (pos 5000) (pos 150000) (standard-density h)
+unfolding standard-density
+standard-inside h =
+    either-way (Inside (pos 5000) (pos 150000)) (ltb h 60000) _ _
+    (λ t. let p = ltb→lt h 60000 t in
+    between-inside _ _ _ _ _ (omega arith) (omega arith) (level-inside (h / 1000) (omega arith)) (level-inside (h / 1000 + 1) (omega arith)))
+    (level-inside 60 (omega arith))
 
-  pub standard-high : standard-density h ≤ℤ pos 150000
-  unfolding standard-density
-  standard-high =
-      either-way (λ z. z ≤ℤ pos 150000) (ltb h 60000) line (pos (level 60))
-      (λ t. let p = ltb→lt h 60000 t in
-        let a = level-bounds (h / 1000) (omega arith) in
-        let b = level-bounds (h / 1000 + 1) (omega arith) in
-        between-high (pos 150000) (pos (level (h / 1000))) (pos (level (h / 1000 + 1))) (1000 * (h / 1000)) (1000 * (h / 1000 + 1)) h (omega arith) (omega arith) (omega (arith, ints)) (omega (arith, ints)))
-      (let a = level-bounds 60 (omega arith) in omega (arith, ints))
-
-not-negative : (z : ℤ) → pos 5000 ≤ℤ z → pos (natAbs z) ≡ z
-not-negative z p = omega (arith, ints)
+not-negative : (z : ℤ) → Inside (pos 5000) (pos 150000) z → pos (natAbs z) ≡ z
+not-negative z i = omega (arith, ints)
 
 pub counted : Counted
-counted h = not-negative (standard-density h) (standard-low h)
+counted h = not-negative (standard-density h) (standard-inside h)
 
 pub standard-laws : AirLaws standard-air
-standard-laws = record {
-  density-low = λ h p. let a = standard-low h in omega (arith, ints);
-  density-high = λ h p. let a = standard-low h in let b = standard-high h in omega (arith, ints);
-  deviation-low = λ h p. omega (arith, ints);
-  deviation-high = λ h p. omega (arith, ints)
-}
+standard-laws =
+    record {
+      density-low = λ h p. let i = standard-inside h in omega (arith, ints);
+      density-high = λ h p. let i = standard-inside h in omega (arith, ints);
+      deviation-low = λ h p. omega (arith, ints);
+      deviation-high = λ h p. omega (arith, ints);
+    }
 
 pub bench-laws : (b : Bench) → AirLaws (bench-air b)
-bench-laws b = record {
-  density-low = λ h p. b .thinnest;
-  density-high = λ h p. b .densest;
-  deviation-low = λ h p. b .coldest;
-  deviation-high = λ h p. b .warmest
-}
+bench-laws b =
+    record {
+      density-low = λ h p. b .thinnest;
+      density-high = λ h p. b .densest;
+      deviation-low = λ h p. b .coldest;
+      deviation-high = λ h p. b .warmest;
+    }

@@ -1,3 +1,4 @@
+pub mod Answered
 pub mod Between
 mod Fits
 mod Every

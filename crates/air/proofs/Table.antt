@@ -30,7 +30,7 @@ falling k h =
     ltb→lt (level (k + 1)) (level k)
     (both-right (leb (level k) 150000) _ (both-right (leb 5000 (level k)) _ (kept k (omega arith))))
 
-pub within : Within table
+pub within : Within 5000 150000 table
 within k h = (level-low k h, level-high k h)
 
 pub level-bounds : (k : ℕ) → k < 61 → (5000 ≤ level k) × (level k ≤ 150000)

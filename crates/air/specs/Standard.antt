@@ -23,9 +23,9 @@ table =
 abbrev pub Falling : List ℕ → Type 0
 Falling t = (k : ℕ) → k + 1 < length t → getD t (k + 1) 0 < getD t k 0
 
--- each entry is a density that a day may have
-abbrev pub Within : List ℕ → Type 0
-Within t = (k : ℕ) → k < length t → (5000 ≤ getD t k 0) × (getD t k 0 ≤ 150000)
+-- each entry is at least low and at most high
+abbrev pub Within : ℕ → ℕ → List ℕ → Type 0
+Within low high t = (k : ℕ) → k < length t → (low ≤ getD t k 0) × (getD t k 0 ≤ high)
 
 -- the density at k thousand feet
 abbrev pub level : ℕ → ℕ

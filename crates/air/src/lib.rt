@@ -4,3 +4,5 @@ pub mod day;
 pub mod days;
 mod levels;
 pub mod standard;
+#[cfg(test)]
+mod tests;
