@@ -1,0 +1,54 @@
+// Flying a leg.
+ghost use mathlib.Core.Path.{_≡_};
+ghost use Prim.Native.Nat.{_≤_};
+ghost use lib.IntN.{pos, negsuc};
+ghost use lib.Signed.{_≤ℤ_};
+ghost use Rattle.std.specs.Vec.{made};
+ghost use Rattle.std.specs.declared.result.Result.the-variants.{Ok};
+ghost use Rattle.leg.specs.Requests.{figures-of};
+ghost use Rattle.leg.specs.Rules.{temperature-factor, available-thrust};
+ghost use Rattle.leg.specs.Legs.{leg-answer};
+use crate::configurations::coefficients;
+use crate::configurations::configuration;
+use crate::configurations::share;
+use crate::drag::drag;
+use crate::drag::force;
+use crate::flow::burn;
+use crate::flow::flow;
+use crate::flown::Flown;
+use crate::mass::Mass;
+use crate::phase::Phase;
+use crate::request::Request;
+use crate::thrust::left;
+use crate::thrust::loss;
+use crate::thrust::short;
+use crate::thrust::used;
+use air::day::Day;
+use aircraft::record::Aircraft;
+use aircraft::record::Temperature;
+use engine::kind::Kind;
+use refusal::refusal::Refusal;
+
+// The thrust that the air of the day leaves, in mN.
+fn available<K: Kind>(temperature: &Temperature, kind: &K, request: &Request, deviation: i64) -> Result<u64, Refusal>
+    requires coldest { ⌜ negsuc 4999 ≤ℤ deviation ⌝ }
+    requires warmest { ⌜ deviation ≤ℤ pos 5000 ⌝ }
+    ensures value { λ r. ⌜ r ≡ Ok (available-thrust (K·Kind .engine (now (kind .entry)) .thrust (now (request .entry) .altitude) (now (request .entry) .speed)) (temperature-factor (now (temperature .entry)) deviation)) ⌝ }
+    ensures bound { λ r. ⌜ made r (λ n. n ≤ 10000000000) ⌝ }
+{
+    let standard = kind.thrust(request.altitude, request.speed)?;
+    Ok(left(standard, loss(temperature, deviation)))
+}
+
+// Refused where the wing does not lift the mass, and then where the leg needs nominal flow and the kind refuses it.
+pub fn fly<K: Kind, D: Day>(aircraft: &Aircraft, kind: &K, day: &D, phase: Phase, request: &Request, mass: Mass) -> Result<Flown, Refusal>
+    ensures { λ r. ⌜ r ≡ leg-answer (now (aircraft .entry)) (K·Kind .engine (now (kind .entry))) (D·Day .air (now (day .entry))) phase (figures-of (now (request .entry))) (mass .milligrams) ⌝ }
+{
+    let (density, deviation) = day.at(request.altitude)?;
+    let c = configuration(aircraft, phase, request);
+    let d = drag(coefficients(aircraft, c), mass, force(density, request.speed, aircraft.wing))?;
+    let n = available(&aircraft.temperature, kind, request, deviation)?;
+    let thrust = used(phase, d, n, share(&aircraft.descent, c, request.altitude));
+    let f = flow(aircraft, kind, phase, c, request, thrust)?;
+    Ok(Flown { configuration: c, thrust, drag: d, flow: f, burn: burn(f, request.seconds), limited: short(phase, d, n) })
+}
