@@ -1,2 +1,4 @@
 pub mod Bounds
 mod Warming
+mod Asked
+mod Joined

@@ -42,7 +42,10 @@ leg-flow a k p c f thrust = flow-used p c (a .cruise) (k .nominal (f .speed) thr
 abbrev pub leg-refuses-flow : KindMeaning → Phase → Configuration → Figures → Bool
 leg-refuses-flow k p c f = needs-nominal p c && k .refuses (f .speed)
 
--- the answer with this drag, available thrust and thrust used
+abbrev pub flow-answer : Aircraft → KindMeaning → Phase → Configuration → Figures → (thrust : ℕ) → Result ℕ Refusal
+flow-answer a k p c f thrust = cond (leg-refuses-flow k p c f) (Err Flow) (Ok (leg-flow a k p c f thrust))
+
+-- what a leg answers with this drag, available thrust and thrust used
 abbrev pub flown-at : Aircraft → KindMeaning → Phase → Configuration → Figures → (drag available thrust : ℕ) → Flown
 flown-at a k p c f d n thrust =
     record {
@@ -57,16 +60,17 @@ flown-at a k p c f d n thrust =
 abbrev pub flown-by : Aircraft → KindMeaning → Phase → Configuration → Figures → (drag available : ℕ) → Flown
 flown-by a k p c f d n = flown-at a k p c f d n (thrust-used p d n (descent-factor (a .descent) c (f .altitude)))
 
+abbrev pub powered-answer : Aircraft → KindMeaning → Phase → Configuration → Figures → (drag available : ℕ) → Result Flown Refusal
+powered-answer a k p c f d n = cond (leg-refuses-flow k p c f) (Err Flow) (Ok (flown-by a k p c f d n))
+
 -- a leg in a configuration, over any drag pair
 abbrev pub flown-with : Aircraft → KindMeaning → Air → Phase → Configuration → ℕ × ℕ → Figures → (mass : ℕ) → Flown
 flown-with a k air p c pair f mass = flown-by a k p c f (leg-drag a air pair f mass) (leg-available a k air f)
 
--- a leg at a mass in mg
+-- a leg in a configuration at a mass in mg: refused where its wing does not lift it, then where its flow is refused
 abbrev pub answer-in : Configuration → Aircraft → KindMeaning → Air → Phase → Figures → (mass : ℕ) → Result Flown Refusal
 answer-in c a k air p f mass =
-    cond (leg-lifts a air f mass)
-    (cond (leg-refuses-flow k p c f) (Err Flow) (Ok (flown-with a k air p c (drag-pair a c) f mass)))
-    (Err Lift)
+    cond (leg-lifts a air f mass) (powered-answer a k p c f (leg-drag a air (drag-pair a c) f mass) (leg-available a k air f)) (Err Lift)
 
 abbrev pub leg-answer : Aircraft → KindMeaning → Air → Phase → Figures → (mass : ℕ) → Result Flown Refusal
 leg-answer a k air p f mass = answer-in (configuration-of a p f) a k air p f mass

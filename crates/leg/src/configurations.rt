@@ -94,12 +94,12 @@ pub(crate) fn share(descent: &Descent, c: Configuration, altitude: u64) -> u64
     }
 }
 
-// Whether the leg's flow goes by thrust.
-pub(crate) fn by_thrust(phase: Phase, c: Configuration) -> bool
-    ensures { λ r. ⌜ r ≡ needs-nominal phase c ⌝ }
+// Whether the flow of a descent goes by thrust.
+pub(crate) fn by_thrust(c: Configuration) -> bool
+    ensures { λ r. ⌜ r ≡ needs-nominal Phase.Descent c ⌝ }
 {
-    match (phase, c) {
-        (Phase::Descent, Configuration::Cruise | Configuration::InitialClimb | Configuration::TakeOff) => false,
-        (Phase::Climb | Phase::Cruise, _) | (Phase::Descent, Configuration::Approach | Configuration::Landing) => true,
+    match c {
+        Configuration::Cruise | Configuration::InitialClimb | Configuration::TakeOff => false,
+        Configuration::Approach | Configuration::Landing => true,
     }
 }

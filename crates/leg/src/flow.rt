@@ -6,8 +6,8 @@ ghost use Rattle.std.specs.Vec.{made};
 ghost use Rattle.std.specs.declared.result.Result.the-variants.{Ok, Err};
 ghost use Rattle.refusal.specs.declared.refusal.Refusal.the-variants.{Flow};
 ghost use Rattle.leg.specs.Requests.{figures-of};
-ghost use Rattle.leg.specs.Rules.{flow-used, burned};
-ghost use Rattle.leg.specs.Legs.{leg-flow, leg-refuses-flow};
+ghost use Rattle.leg.specs.Rules.{burned};
+ghost use Rattle.leg.specs.Legs.{flow-answer};
 use crate::configurations::by_thrust;
 use crate::phase::Phase;
 use crate::request::Request;
@@ -26,20 +26,45 @@ fn cruising(nominal: u64, factor: u64) -> u64
     nominal * factor / 100000
 }
 
-// In mg/min, refused where it goes by thrust and nominal flow is refused.
+// Nominal flow at the leg's speed.
+fn nominal<K: Kind>(kind: &K, request: &Request, thrust: u64) -> Result<u64, Refusal>
+    requires { ⌜ thrust ≤ 10000000000 ⌝ }
+    ensures value { λ r. ⌜ r ≡ cond (K·Kind .engine (now (kind .entry)) .refuses (now (request .entry) .speed)) (Err Flow) (Ok (K·Kind .engine (now (kind .entry)) .nominal (now (request .entry) .speed) thrust)) ⌝ }
+    ensures bound { λ r. ⌜ made r (λ n. n ≤ 100000000000) ⌝ }
+{
+    kind.nominal(request.speed, thrust)
+}
+
+// Idle flow at the leg's altitude.
+fn idle<K: Kind>(kind: &K, request: &Request) -> Result<u64, Refusal>
+    ensures value { λ r. ⌜ r ≡ Ok (K·Kind .engine (now (kind .entry)) .idle (now (request .entry) .altitude)) ⌝ }
+    ensures bound { λ r. ⌜ made r (λ n. n ≤ 100000000000) ⌝ }
+{
+    kind.idle(request.altitude)
+}
+
+fn descending<K: Kind>(aircraft: &Aircraft, kind: &K, c: Configuration, request: &Request, thrust: u64) -> Result<u64, Refusal>
+    requires { ⌜ thrust ≤ 10000000000 ⌝ }
+    ensures value { λ r. ⌜ r ≡ flow-answer (now (aircraft .entry)) (K·Kind .engine (now (kind .entry))) Phase.Descent c (figures-of (now (request .entry))) thrust ⌝ }
+    ensures bound { λ r. ⌜ made r (λ n. n ≤ 100000000000) ⌝ }
+{
+    if !by_thrust(c) {
+        return idle(kind, request);
+    }
+    let n = nominal(kind, request, thrust)?;
+    Ok(n.max(idle(kind, request)?))
+}
+
+// In mg/min, refused where the leg needs nominal flow and the kind refuses it.
 pub(crate) fn flow<K: Kind>(aircraft: &Aircraft, kind: &K, phase: Phase, c: Configuration, request: &Request, thrust: u64) -> Result<u64, Refusal>
     requires { ⌜ thrust ≤ 10000000000 ⌝ }
-    ensures value { λ r. ⌜ r ≡ cond (leg-refuses-flow (K·Kind .engine (now (kind .entry))) phase c (figures-of (now (request .entry)))) (Err Flow) (Ok (leg-flow (now (aircraft .entry)) (K·Kind .engine (now (kind .entry))) phase c (figures-of (now (request .entry))) thrust)) ⌝ }
+    ensures value { λ r. ⌜ r ≡ flow-answer (now (aircraft .entry)) (K·Kind .engine (now (kind .entry))) phase c (figures-of (now (request .entry))) thrust ⌝ }
     ensures bound { λ r. ⌜ made r (λ n. n ≤ 200000000000) ⌝ }
 {
-    if !by_thrust(phase, c) {
-        return kind.idle(request.altitude);
-    }
-    let nominal = kind.nominal(request.speed, thrust)?;
     match phase {
-        Phase::Climb => Ok(nominal),
-        Phase::Cruise => Ok(cruising(nominal, aircraft.cruise)),
-        Phase::Descent => Ok(nominal.max(kind.idle(request.altitude)?)),
+        Phase::Climb => nominal(kind, request, thrust),
+        Phase::Cruise => Ok(cruising(nominal(kind, request, thrust)?, aircraft.cruise)),
+        Phase::Descent => descending(aircraft, kind, c, request, thrust),
     }
 }
 

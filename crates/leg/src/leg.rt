@@ -7,7 +7,7 @@ ghost use Rattle.std.specs.Vec.{made};
 ghost use Rattle.std.specs.declared.result.Result.the-variants.{Ok};
 ghost use Rattle.leg.specs.Requests.{figures-of};
 ghost use Rattle.leg.specs.Rules.{temperature-factor, available-thrust};
-ghost use Rattle.leg.specs.Legs.{leg-answer};
+ghost use Rattle.leg.specs.Legs.{powered-answer, leg-answer};
 use crate::configurations::coefficients;
 use crate::configurations::configuration;
 use crate::configurations::share;
@@ -26,6 +26,7 @@ use crate::thrust::used;
 use air::day::Day;
 use aircraft::record::Aircraft;
 use aircraft::record::Temperature;
+use aircraft::words::Configuration;
 use engine::kind::Kind;
 use refusal::refusal::Refusal;
 
@@ -40,15 +41,24 @@ fn available<K: Kind>(temperature: &Temperature, kind: &K, request: &Request, de
     Ok(left(standard, loss(temperature, deviation)))
 }
 
+// What a leg that its wing lifts answers, with this drag and available thrust.
+fn powered<K: Kind>(aircraft: &Aircraft, kind: &K, phase: Phase, c: Configuration, request: &Request, drag: u64, available: u64) -> Result<Flown, Refusal>
+    requires { ⌜ available ≤ 10000000000 ⌝ }
+    ensures { λ r. ⌜ r ≡ powered-answer (now (aircraft .entry)) (K·Kind .engine (now (kind .entry))) phase c (figures-of (now (request .entry))) drag available ⌝ }
+{
+    let thrust = used(phase, drag, available, share(&aircraft.descent, c, request.altitude));
+    let flow = flow(aircraft, kind, phase, c, request, thrust)?;
+    let burn = burn(flow, request.seconds);
+    Ok(Flown { configuration: c, thrust, drag, flow, burn, limited: short(phase, drag, available) })
+}
+
 // Refused where the wing does not lift the mass, and then where the leg needs nominal flow and the kind refuses it.
 pub fn fly<K: Kind, D: Day>(aircraft: &Aircraft, kind: &K, day: &D, phase: Phase, request: &Request, mass: Mass) -> Result<Flown, Refusal>
     ensures { λ r. ⌜ r ≡ leg-answer (now (aircraft .entry)) (K·Kind .engine (now (kind .entry))) (D·Day .air (now (day .entry))) phase (figures-of (now (request .entry))) (mass .milligrams) ⌝ }
 {
     let (density, deviation) = day.at(request.altitude)?;
     let c = configuration(aircraft, phase, request);
-    let d = drag(coefficients(aircraft, c), mass, force(density, request.speed, aircraft.wing))?;
-    let n = available(&aircraft.temperature, kind, request, deviation)?;
-    let thrust = used(phase, d, n, share(&aircraft.descent, c, request.altitude));
-    let f = flow(aircraft, kind, phase, c, request, thrust)?;
-    Ok(Flown { configuration: c, thrust, drag: d, flow: f, burn: burn(f, request.seconds), limited: short(phase, d, n) })
+    let drag = drag(coefficients(aircraft, c), mass, force(density, request.speed, aircraft.wing))?;
+    let available = available(&aircraft.temperature, kind, request, deviation)?;
+    powered(aircraft, kind, phase, c, request, drag, available)
 }
