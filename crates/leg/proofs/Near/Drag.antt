@@ -11,6 +11,7 @@ use Rattle.exact.proofs.Linear.{linear, at, con, _⊕_, _⊖_, _≼_, near}
 use Rattle.engine.proofs.Bounds.{quotient}
 use Rattle.engine.proofs.Rounding.{near-times, times-near, near-high}
 use Rattle.leg.specs.Rules.{dynamic-pressure, wing-force, weight, parasitic-drag, induced-drag, drag-of}
+use Rattle.leg.specs.Nearness.{Drag-bounds}
 use Rattle.leg.specs.Exact.{exact-pressure, exact-force, exact-weight, exact-parasitic, exact-induced, exact-drag-of}
 
 near-low : {n e : ℕ} {x : ℚ} (m : ℕ) → m + e ≤ n → Near (nat n) x (nat e) → nat m ≤ℚ x
@@ -93,3 +94,14 @@ module _ (w q : ℕ) (x y : ℚ) (heavy : 1000 ≤ w) (lift : 10 * w ≤ 3 * q) 
       many h =
           linear (nat (loading w q) ∷ exact-loading x y ∷ nat (loading w q - 15) ∷ []) (at 2 ≼ at 1 ∷ at 0 ≼ at 2 ⊕ con 15 ∷ []) (at 0 ≼ at 1 ⊕ con 15) (λ d u w p h. omega arith)
           (below (loading w q - 15) (omega arith), (omega arith, tt))
+
+  -- with CD0 at most 0.94 and CD2 at most 0.47
+  pub drag-near : (pair : ℕ × ℕ) → Drag-bounds pair → Near (nat (drag-of pair w q)) (exact-drag-of pair x y) (nat 75)
+  unfolding exact-drag-of exact-parasitic exact-induced
+  drag-near pair b =
+      near-weaken
+      (near-≈ (nat-+ (parasitic-drag (pair .0) q) (induced-drag (pair .1) w q)) (≈-refl _)
+       (near-+
+        (times-near (pair .0) (10 ^ 8) 3 (omega arith) (omega (arith, b .parasitic)) presses)
+        (times-near (pair .1) (10 ^ 7) 72 (omega arith) (omega (arith, b .induced)) loading-near)))
+      (omega arith)
