@@ -1,3 +1,4 @@
 -- How near the leg in whole numbers is to the exact leg, and how the exact burn goes with the mass.
 pub mod Drag
 pub mod Thrust
+pub mod Flow

@@ -88,6 +88,14 @@ module _ (n : ℕ) (x : ℚ) (available : Thrust-near n x 21) where
   unfolding exact-cruise-cap
   cap-near = share-near 95 100 21 (omega arith) (omega arith) (omega arith)
 
+  pub exact-cruising-low : (y : ℚ) (factor : ℕ) → nat 0 ≤ℚ y → nat 0 ≤ℚ exact-thrust-used Cruise y x factor
+  unfolding exact-thrust-used
+  exact-cruising-low y factor low = ≤-min low (cap-near .exact-low)
+
+  pub exact-cruising-high : (y : ℚ) (factor : ℕ) → exact-thrust-used Cruise y x factor ≤ℚ nat (10 ^ 10)
+  unfolding exact-thrust-used
+  exact-cruising-high y factor = ≤-trans (min-right y (exact-cruise-cap x)) (cap-near .exact-high)
+
   -- with a drag within 75
   pub cruising-near : (d : ℕ) (y : ℚ) (factor : ℕ) → Near (nat d) y (nat 75) → nat 0 ≤ℚ y → Thrust-near (thrust-used Cruise d n factor) (exact-thrust-used Cruise y x factor) 75
   unfolding exact-thrust-used
@@ -95,8 +103,8 @@ module _ (n : ℕ) (x : ℚ) (available : Thrust-near n x 21) where
       record {
         near = near-≈ (nat-min d (cruise-cap n)) (≈-refl _) (near-min drag (near-weaken (cap-near .near) (nat-≤ (omega arith))));
         high = omega (arith, cap-near .high);
-        exact-low = ≤-min low (cap-near .exact-low);
-        exact-high = ≤-trans (min-right y (exact-cruise-cap x)) (cap-near .exact-high);
+        exact-low = exact-cruising-low y factor low;
+        exact-high = exact-cruising-high y factor;
       }
 
   pub descending-near : (d : ℕ) (y : ℚ) (factor : ℕ) → factor ≤ 10 ^ 8 → Thrust-near (thrust-used Descent d n factor) (exact-thrust-used Descent y x factor) 22
