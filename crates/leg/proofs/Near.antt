@@ -2,3 +2,4 @@
 pub mod Drag
 pub mod Thrust
 pub mod Flow
+pub mod Burn

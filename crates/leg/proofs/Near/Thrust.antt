@@ -19,7 +19,7 @@ held-is : (z : ℤ) → nat (held-loss z) ≈ maxℚ (nat 0) (minℚ (nat greate
 held-is (pos n) = omega arith
 held-is (negsuc n) = omega arith
 
-held-high : (z : ℤ) → held-loss z ≤ greatest-loss
+pub held-high : (z : ℤ) → held-loss z ≤ greatest-loss
 held-high (pos n) = omega arith
 held-high (negsuc n) = omega arith
 
@@ -87,6 +87,10 @@ module _ (n : ℕ) (x : ℚ) (available : Thrust-near n x 21) where
   cap-near : Thrust-near (cruise-cap n) (exact-cruise-cap x) 21
   unfolding exact-cruise-cap
   cap-near = share-near 95 100 21 (omega arith) (omega arith) (omega arith)
+
+  pub climbing-near : (d : ℕ) (y : ℚ) (factor : ℕ) → Thrust-near (thrust-used Climb d n factor) (exact-thrust-used Climb y x factor) 21
+  unfolding exact-thrust-used
+  climbing-near d y factor = available
 
   pub exact-cruising-low : (y : ℚ) (factor : ℕ) → nat 0 ≤ℚ y → nat 0 ≤ℚ exact-thrust-used Cruise y x factor
   unfolding exact-thrust-used
