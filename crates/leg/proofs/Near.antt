@@ -2,4 +2,5 @@
 pub mod Drag
 pub mod Thrust
 pub mod Flow
+pub mod Slope
 pub mod Burn
