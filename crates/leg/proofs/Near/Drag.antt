@@ -14,7 +14,7 @@ use Rattle.leg.specs.Rules.{dynamic-pressure, wing-force, weight, parasitic-dr
 use Rattle.leg.specs.Nearness.{Drag-bounds}
 use Rattle.leg.specs.Exact.{exact-pressure, exact-force, exact-weight, exact-parasitic, exact-induced, exact-drag-of}
 
-near-low : {n e : ℕ} {x : ℚ} (m : ℕ) → m + e ≤ n → Near (nat n) x (nat e) → nat m ≤ℚ x
+pub near-low : {n e : ℕ} {x : ℚ} (m : ℕ) → m + e ≤ n → Near (nat n) x (nat e) → nat m ≤ℚ x
 near-low {n} {e} {x} m p h = linear (nat m ∷ nat n ∷ x ∷ nat e ∷ []) (near (at 1) (at 2) (at 3) ∷ at 0 ⊕ at 3 ≼ at 1 ∷ []) (at 0 ≼ at 2) (λ d u w p h. omega arith) (h, (omega arith, tt))
 
 pub force-near : (density v s : ℕ) → s ≤ 10 ^ 6 → Near (nat (wing-force (dynamic-pressure density v) s)) (exact-force (exact-pressure density v) s) (nat 2)
@@ -58,7 +58,7 @@ module _ (w q : ℕ) (x y : ℚ) (heavy : 1000 ≤ w) (lift : 10 * w ≤ 3 * q) 
   force-high : y ≤ℚ nat (q + 2)
   force-high = near-high (q + 2) (omega arith) presses
 
-  force-positive : nat 0 <ℚ y
+  pub force-positive : nat 0 <ℚ y
   force-positive = <-≤-trans (nat-< {b = q - 2} (omega arith)) force-low
 
   weight-≥0 : nat 0 ≤ℚ x
