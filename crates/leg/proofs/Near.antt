@@ -4,3 +4,6 @@ pub mod Thrust
 pub mod Flow
 pub mod Slope
 pub mod Burn
+pub mod Gain
+pub use Burn.{burn-near}
+pub use Gain.{burn-rises, burn-gains}

@@ -8,3 +8,4 @@ mod drag;
 mod thrust;
 mod flow;
 pub mod leg;
+pub mod nearness;

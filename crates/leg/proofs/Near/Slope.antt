@@ -41,7 +41,7 @@ least-gains c {x} {x′} h =
     (λ e. linear (x ∷ x′ ∷ minℚ x c ∷ minℚ x′ c ∷ c ∷ []) (at 2 ≋ at 4 ∷ at 3 ≼ at 4 ∷ at 0 ≼ at 1 ∷ []) (at 3 ⊖ at 2 ≼ at 1 ⊖ at 0) (λ d u w p h. omega arith) (e, (min-right x′ c, (h, tt))))
     (min-either x c)
 
-exact-weight-is : (x : ℚ) → nat (10 ^ 9) *ℚ exact-weight x ≈ nat 980665 *ℚ x
+pub exact-weight-is : (x : ℚ) → nat (10 ^ 9) *ℚ exact-weight x ≈ nat 980665 *ℚ x
 unfolding exact-weight
 exact-weight-is x = omega arith
 
