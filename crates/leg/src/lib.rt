@@ -8,3 +8,6 @@ mod drag;
 mod thrust;
 mod flow;
 pub mod leg;
+
+#[cfg(test)]
+mod tests;
