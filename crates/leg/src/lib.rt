@@ -9,3 +9,6 @@ mod thrust;
 mod flow;
 pub mod leg;
 pub mod nearness;
+
+#[cfg(test)]
+mod tests;
