@@ -83,11 +83,11 @@ fn largest() -> Aircraft {
     }
 }
 
-// The sample jet at 60 t, 450 kt and 280 kt for a minute.
-fn sample_leg(phase: Phase, altitude: u64, density: u64, deviation: i64) -> Result<Flown, Refusal> {
+// The sample jet at 450 kt for a minute.
+fn sample_leg(phase: Phase, altitude: u64, density: u64, deviation: i64, mass: Mass) -> Result<Flown, Refusal> {
     let day = Bench::new(density, deviation)?;
     let request = Request::new(&sample(), altitude, 4500, 280, 60)?;
-    fly(&sample(), &Jet { coefficients: sample_jet() }, &day, phase, &request, Mass { milligrams: 60000000000 })
+    fly(&sample(), &Jet { coefficients: sample_jet() }, &day, phase, &request, mass)
 }
 
 // The configuration of the sample jet at 60 t and 250 kt.
@@ -105,7 +105,7 @@ fn largest_leg(phase: Phase, altitude: u64, calibrated: u64, deviation: i64) -> 
     fly(&largest(), &Jet { coefficients: largest_jet() }, &day, phase, &request, Mass { milligrams: 900000000000 })
 }
 
-// The refusal of a leg of the sample jet at 180 kt in thin air, or of a thirsty kind, by its number; 0 where it is flown.
+// The number by which a leg of the sample aircraft is refused, or 0.
 fn refusal_of(kind: &Jet, phase: Phase, altitude: u64, speed: u64, milligrams: u64) -> Result<u8, Refusal> {
     let day = Bench::new(45000, 0)?;
     let request = Request::new(&sample(), altitude, speed, 191, 60)?;
@@ -118,7 +118,7 @@ fn refusal_of(kind: &Jet, phase: Phase, altitude: u64, speed: u64, milligrams: u
     }
 }
 
-// The refusal of the figures of a leg, or 0.
+// The number by which the figures of a leg are refused, or 0.
 fn figures(altitude: u64, speed: u64, calibrated: u64, seconds: u64) -> u8 {
     match Request::new(&sample(), altitude, speed, calibrated, seconds) {
         Ok(_) => 0,
@@ -170,14 +170,15 @@ fn descending() -> Result<(), Fail> {
 #[test]
 fn worked_legs() -> Result<(), Fail> {
     let c = Configuration::Cruise;
+    let mass = Mass { milligrams: 60000000000 };
     let climb = Flown { configuration: c, thrust: 73500000, drag: 35601203, flow: 74602500, burn: 74602500, limited: false };
-    check_eq(sample_leg(Phase::Climb, 30000, 45000, 0), Ok(climb))?;
-    let cruise = Flown { configuration: c, thrust: 35601203, drag: 35601203, flow: 36135221, burn: 36135221, limited: false };
-    check_eq(sample_leg(Phase::Cruise, 30000, 45000, 0), Ok(cruise))?;
+    check_eq(sample_leg(Phase::Climb, 30000, 45000, 0, mass), Ok(climb))?;
+    let cruise = Flown { configuration: c, thrust: 35572661, drag: 35572661, flow: 36106250, burn: 36106250, limited: false };
+    check_eq(sample_leg(Phase::Cruise, 30000, 45000, 0, Mass { milligrams: 59925397500 }), Ok(cruise))?;
     let cold = Flown { configuration: c, thrust: 121500000, drag: 53975370, flow: 123322500, burn: 123322500, limited: false };
-    check_eq(sample_leg(Phase::Climb, 10000, 90000, -5000), Ok(cold))?;
+    check_eq(sample_leg(Phase::Climb, 10000, 90000, -5000, mass), Ok(cold))?;
     let warm = Flown { configuration: c, thrust: 115425000, drag: 53975370, flow: 117156375, burn: 117156375, limited: false };
-    check_eq(sample_leg(Phase::Climb, 10000, 90000, 2000), Ok(warm))
+    check_eq(sample_leg(Phase::Climb, 10000, 90000, 2000, mass), Ok(warm))
 }
 
 #[test]
