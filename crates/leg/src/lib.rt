@@ -1,13 +1,12 @@
-pub mod phase;
-pub mod mass;
-pub mod request;
-pub mod flown;
-pub mod requests;
 mod configurations;
 mod drag;
-mod thrust;
 mod flow;
+pub mod flown;
 pub mod leg;
-
+pub mod mass;
+pub mod phase;
+pub mod request;
+pub mod requests;
 #[cfg(test)]
 mod tests;
+mod thrust;

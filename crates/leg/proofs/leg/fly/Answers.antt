@@ -14,11 +14,11 @@ returns g c =
     let fits : SFits w64 (c .in-Continue-density .deviation) = search needs in
     c .powered .ensures
     ∙ joined (c .args .aircraft .now) (g .K·Kind .engine (c .args .kind .now)) (g .D·Day .air (c .args .day .now)) (c .args .phase) (figures-of r) (c .args .mass .milligrams)
-      (c .in-Continue-density .density) (c .force .result) (c .in-Continue-drag .drag) (c .in-Continue-available .available) (c .in-Continue-density .deviation) (c .configuration-c .result) (c .coefficients .result)
-      (r .low) (c .in-Continue-density .ensures tt) (c .configuration-c .ensures) (c .coefficients .ensures .value) (c .force .ensures .value) (c .in-Continue-drag .ensures tt) (simp toZ-ofZ at (c .in-Continue-available .ensures tt .value))
+    (c .in-Continue-density .density) (c .force-force .result) (c .in-Continue-drag .drag) (c .in-Continue-available .available) (c .in-Continue-density .deviation) (c .configuration-c .result) (c .coefficients .result)
+    (r .low) (c .in-Continue-density .ensures tt) (c .configuration-c .ensures) (c .coefficients .ensures .value) (c .force-force .ensures .value) (c .in-Continue-drag .ensures tt) (simp toZ-ofZ at (c .in-Continue-available .ensures tt .value))
 
-pub force-requires : need.force-requires
-force-requires g c κs =
+pub force-force-requires : need.force-force-requires
+force-force-requires g c κs =
     let day = c .args .day .now in
     let r = c .args .request .now in
     record {
