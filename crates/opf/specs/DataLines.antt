@@ -14,7 +14,6 @@ use Rattle.refusal.specs.declared.fault.Fault.the-variants as fault
 use Rattle.aircraft.specs.declared.words.EngineType.{EngineType}
 use Rattle.aircraft.specs.declared.words.EngineType.the-variants as engine
 use Rattle.aircraft.specs.declared.words.Configuration.{Configuration}
-use Rattle.aircraft.specs.declared.words.Configuration.the-variants as flaps
 use Rattle.aircraft.specs.declared.draft.DraftMasses.{DraftMasses}
 use Rattle.aircraft.specs.declared.draft.DraftRow.{DraftRow}
 use Rattle.aircraft.specs.declared.draft.DraftThrust.{DraftThrust}
