@@ -42,7 +42,12 @@ pub(crate) fn put(at: usize, line: &[u8]) -> Replacement<'_> {
 }
 
 // The sample with two lines replaced; `end` follows each line.
-pub(crate) fn file(heap: Global, a: Replacement, b: Replacement, end: &[u8]) -> Result<Vec<u8>, AllocError> {
+pub(crate) fn file(
+    heap: Global,
+    a: Replacement,
+    b: Replacement,
+    end: &[u8],
+) -> Result<Vec<u8>, AllocError> {
     let mut text = Vec::new(heap);
     for n in 1..25 {
         if n == a.at {
@@ -66,13 +71,21 @@ pub(crate) fn fault(text: &[u8]) -> (u8, u32, u32) {
 }
 
 // The fault of the sample with two lines replaced.
-pub(crate) fn fault_of_two(heap: Global, a: Replacement, b: Replacement) -> Result<(u8, u32, u32), AllocError> {
+pub(crate) fn fault_of_two(
+    heap: Global,
+    a: Replacement,
+    b: Replacement,
+) -> Result<(u8, u32, u32), AllocError> {
     let text = file(heap, a, b, b"\n")?;
     Ok(fault(text.as_slice()))
 }
 
 // The fault of the sample with line `at` replaced.
-pub(crate) fn fault_with(heap: Global, at: usize, line: &[u8]) -> Result<(u8, u32, u32), AllocError> {
+pub(crate) fn fault_with(
+    heap: Global,
+    at: usize,
+    line: &[u8],
+) -> Result<(u8, u32, u32), AllocError> {
     fault_of_two(heap, put(at, line), put(at, line))
 }
 
