@@ -1,6 +1,6 @@
 -- The plain record before anything is read, and with one row filled.
 use mathlib.Core.Bool.{false}
-use mathlib.Core.List.{List, [], _∷_}
+use mathlib.Core.List.{[], _∷_}
 use lib.IntN.{pos}
 use lib.ListN.{set}
 use Rattle.aircraft.specs.declared.words.Configuration.{Configuration}

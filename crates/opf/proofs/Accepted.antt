@@ -92,12 +92,13 @@ natural-clear n fs k q e =
     let s = natural-some q (x .negative) (whole-count (q .decimals) x) (r .1) (r .3) in
     let value : natural fs k q ≡ r .1 = ap (λ (o : Option Number). valueOr (bound o (natural-in q)) 0) (r .2) ∙ ap (λ (o : Option ℕ). valueOr o 0) (r .3) in
     record {
-        least = subst (λ (v : ℕ). q .low ≤ v) (sym value) (s .1);
-        most = subst (λ (v : ℕ). v ≤ q .high) (sym value) (s .2);
-        prints =
-            subst (λ (v : ℕ). Prints-count (field fs k) q v) (sym value)
-            (subst (λ (o : Option Number). Is-number o (q .decimals) (pos (r .1))) (sym (r .2))
-            (ap (λ (z : ℤ). z *ℤ pos (10 ^ lowering x)) (s .3) ∙ printed-count (x .negative) (x .digits) (raising (q .decimals) x) (lowering x) (r .1) (s .0))) }
+      least = subst (λ (v : ℕ). q .low ≤ v) (sym value) (s .1);
+      most = subst (λ (v : ℕ). v ≤ q .high) (sym value) (s .2);
+      prints =
+          subst (λ (v : ℕ). Prints-count (field fs k) q v) (sym value)
+          (subst (λ (o : Option Number). Is-number o (q .decimals) (pos (r .1))) (sym (r .2))
+          (ap (λ (z : ℤ). z *ℤ pos (10 ^ lowering x)) (s .3) ∙ printed-count (x .negative) (x .digits) (raising (q .decimals) x) (lowering x) (r .1) (s .0)));
+    }
 
 signed-some : (q : Quantity) (m : Bool) (o : Option ℕ) (z : ℤ) → signed-from q m o ≡ Some z → (v : ℕ) × (o ≡ Some v) × (z ≡ signed-value m v) × (v ≤ q .high)
 signed-some q m None z e = absurd (some-is-not-none z (sym e))
@@ -129,9 +130,10 @@ integer-clear n fs k q e =
     let is-signed : integer fs k q ≡ signed-value (x .negative) (s .0) = value ∙ s .2 in
     let range = signed-within (x .negative) (s .0) (q .high) (s .3) in
     record {
-        least = subst (λ (z : ℤ). negℤ (pos (q .high)) ≤ℤ z) (sym is-signed) (range .0);
-        most = subst (λ (z : ℤ). z ≤ℤ pos (q .high)) (sym is-signed) (range .1);
-        prints =
-            subst (λ (z : ℤ). Prints (field fs k) q z) (sym is-signed)
-            (subst (λ (o : Option Number). Is-number o (q .decimals) (signed-value (x .negative) (s .0))) (sym (r .2))
-            (printed-count (x .negative) (x .digits) (raising (q .decimals) x) (lowering x) (s .0) (s .1))) }
+      least = subst (λ (z : ℤ). negℤ (pos (q .high)) ≤ℤ z) (sym is-signed) (range .0);
+      most = subst (λ (z : ℤ). z ≤ℤ pos (q .high)) (sym is-signed) (range .1);
+      prints =
+          subst (λ (z : ℤ). Prints (field fs k) q z) (sym is-signed)
+          (subst (λ (o : Option Number). Is-number o (q .decimals) (signed-value (x .negative) (s .0))) (sym (r .2))
+          (printed-count (x .negative) (x .digits) (raising (q .decimals) x) (lowering x) (s .0) (s .1)));
+    }

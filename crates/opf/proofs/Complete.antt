@@ -85,21 +85,23 @@ thrust-clear e n fs h =
     let f = none-first _ _ (d .1) in
     let g = none-first _ _ (f .1) in
     record {
-        ctc1 = natural-clear n fs 1 (quantity.ctc1 e) (b .0);
-        ctc2 = natural-clear n fs 2 quantity.ctc2 (c .0);
-        ctc3 = ctc3-clear e n fs (d .0);
-        ctc4 = integer-clear n fs 4 quantity.ctc4 (f .0);
-        ctc5 = natural-clear n fs 5 quantity.ctc5 (g .0) }
+      ctc1 = natural-clear n fs 1 (quantity.ctc1 e) (b .0);
+      ctc2 = natural-clear n fs 2 quantity.ctc2 (c .0);
+      ctc3 = ctc3-clear e n fs (d .0);
+      ctc4 = integer-clear n fs 4 quantity.ctc4 (f .0);
+      ctc5 = natural-clear n fs 5 quantity.ctc5 (g .0);
+    }
 
 thrust-ranged : (e : EngineType) (fs : Fields) → Thrust-read e fs → Ranged-thrust e (thrust-of e fs)
 thrust-ranged engine.Jet fs r =
     record {
-        ctc1-least = r .ctc1 .least;
-        ctc1-most = r .ctc1 .most;
-        ctc2-least = r .ctc2 .least;
-        ctc2-most = r .ctc2 .most;
-        ctc3-least = omega (arith, ints);
-        ctc3-most = omega (arith, ints, r .ctc3 .most) }
+      ctc1-least = r .ctc1 .least;
+      ctc1-most = r .ctc1 .most;
+      ctc2-least = r .ctc2 .least;
+      ctc2-most = r .ctc2 .most;
+      ctc3-least = omega (arith, ints);
+      ctc3-most = omega (arith, ints, r .ctc3 .most);
+    }
 thrust-ranged engine.Turboprop fs r =
     record { ctc1-most = r .ctc1 .most; ctc2-least = r .ctc2 .least; ctc2-most = r .ctc2 .most; ctc3-least = r .ctc3 .least; ctc3-most = r .ctc3 .most }
 
@@ -122,16 +124,18 @@ eight flaps.Landing s v p = p
 thrust-printed : (en : Engine) (t : Temperature) (e : EngineType) (fs : Fields) → engine-type en ≡ e → thrust-values en t ≡ thrust-of e fs → Thrust-read e fs → Thrust-printed fs en
 thrust-printed (kind.Jet c) t engine.Jet fs h v r =
     record {
-        ctc1 = subst (λ (x : ℕ). Prints-count (field fs 1) (quantity.ctc1 engine.Jet) x) (sym (ap (λ (y : DraftThrust). y .ctc1) v)) (r .ctc1 .prints);
-        ctc2 = subst (λ (x : ℕ). Prints-count (field fs 2) quantity.ctc2 x) (sym (ap (λ (y : DraftThrust). y .ctc2) v)) (r .ctc2 .prints);
-        ctc3 = subst (λ (x : ℤ). Prints (field fs 3) quantity.jet-ctc3 x) (sym (ap (λ (y : DraftThrust). y .ctc3) v)) (r .ctc3 .prints) }
+      ctc1 = subst (λ (x : ℕ). Prints-count (field fs 1) (quantity.ctc1 engine.Jet) x) (sym (ap (λ (y : DraftThrust). y .ctc1) v)) (r .ctc1 .prints);
+      ctc2 = subst (λ (x : ℕ). Prints-count (field fs 2) quantity.ctc2 x) (sym (ap (λ (y : DraftThrust). y .ctc2) v)) (r .ctc2 .prints);
+      ctc3 = subst (λ (x : ℤ). Prints (field fs 3) quantity.jet-ctc3 x) (sym (ap (λ (y : DraftThrust). y .ctc3) v)) (r .ctc3 .prints);
+    }
 thrust-printed (kind.Jet c) t engine.Turboprop fs h v r = absurd (let z : _≡_ {A = ℕ} 0 1 = cc in omega arith)
 thrust-printed (kind.Turboprop c) t engine.Jet fs h v r = absurd (let z : _≡_ {A = ℕ} 0 1 = cc in omega arith)
 thrust-printed (kind.Turboprop c) t engine.Turboprop fs h v r =
     record {
-        ctc1 = subst (λ (x : ℕ). Prints-count (field fs 1) (quantity.ctc1 engine.Turboprop) x) (sym (ap (λ (y : DraftThrust). y .ctc1) v)) (r .ctc1 .prints);
-        ctc2 = subst (λ (x : ℕ). Prints-count (field fs 2) quantity.ctc2 x) (sym (ap (λ (y : DraftThrust). y .ctc2) v)) (r .ctc2 .prints);
-        ctc3 = subst (λ (x : ℤ). Prints (field fs 3) quantity.turboprop-ctc3 x) (sym (ap (λ (y : DraftThrust). y .ctc3) v)) (r .ctc3 .prints) }
+      ctc1 = subst (λ (x : ℕ). Prints-count (field fs 1) (quantity.ctc1 engine.Turboprop) x) (sym (ap (λ (y : DraftThrust). y .ctc1) v)) (r .ctc1 .prints);
+      ctc2 = subst (λ (x : ℕ). Prints-count (field fs 2) quantity.ctc2 x) (sym (ap (λ (y : DraftThrust). y .ctc2) v)) (r .ctc2 .prints);
+      ctc3 = subst (λ (x : ℤ). Prints (field fs 3) quantity.turboprop-ctc3 x) (sym (ap (λ (y : DraftThrust). y .ctc3) v)) (r .ctc3 .prints);
+    }
 
 -- the last two coefficients, which every engine has alike
 temperature-is : (en : Engine) (t : Temperature) → (thrust-values en t .ctc4 ≡ t .ctc4) × (thrust-values en t .ctc5 ≡ t .ctc5)
@@ -154,27 +158,28 @@ engine-worded s (Some x) e h = first-is engine-word (engine.Jet ∷ engine.Turbo
 module _ {d : List Fields} (w : Whole d) where
   engine-read : field (nth-line d 1) 4 ≡ engine-word (engine-of (nth-line d 1))
   engine-read =
-    let r = line-clear w 1 (omega arith) (omega arith) in
-    let a = none-first _ _ (r .1) in
-    let b = none-first _ _ (a .1) in
-    engine-worded (field (nth-line d 1) 4) (engine-named (field (nth-line d 1) 4)) refl (test-holds (isSome (engine-named (field (nth-line d 1) 4))) (fault.Word (r .0) 4) (b .0))
+      let r = line-clear w 1 (omega arith) (omega arith) in
+      let a = none-first _ _ (r .1) in
+      let b = none-first _ _ (a .1) in
+      engine-worded (field (nth-line d 1) 4) (engine-named (field (nth-line d 1) 4)) refl (test-holds (isSome (engine-named (field (nth-line d 1) 4))) (fault.Word (r .0) 4) (b .0))
 
   masses-read : Masses-read (nth-line d 2)
   masses-read =
-    let r = line-clear w 2 (omega arith) (omega arith) in
-    let fs = nth-line d 2 in
-    let a = none-first _ _ (r .1) in
-    let b = none-first _ _ (a .1) in
-    let c = none-first _ _ (b .1) in
-    let e = none-first _ _ (c .1) in
-    let f = none-first _ _ (e .1) in
-    let order = and-parts _ _ (test-holds (in-order (masses-of fs)) (fault.MassOrder (r .0)) (f .0)) in
-    record {
+      let r = line-clear w 2 (omega arith) (omega arith) in
+      let fs = nth-line d 2 in
+      let a = none-first _ _ (r .1) in
+      let b = none-first _ _ (a .1) in
+      let c = none-first _ _ (b .1) in
+      let e = none-first _ _ (c .1) in
+      let f = none-first _ _ (e .1) in
+      let order = and-parts _ _ (test-holds (in-order (masses-of fs)) (fault.MassOrder (r .0)) (f .0)) in
+      record {
         reference = natural-clear (r .0) fs 1 quantity.mass (b .0);
         minimum = natural-clear (r .0) fs 2 quantity.mass (c .0);
         maximum = natural-clear (r .0) fs 3 quantity.mass (e .0);
         lower = leb-true _ _ (order .0);
-        upper = leb-true _ _ (order .1) }
+        upper = leb-true _ _ (order .1);
+      }
 
   -- a line of which field k is read by itself
   one-read : (k : ℕ) (q : Quantity) (n : ℕ) (fs : Fields) → first-of (one-faults n fs k q) ≡ None → Natural-read fs k q
@@ -194,33 +199,34 @@ module _ {d : List Fields} (w : Whole d) where
 
   thrust-read : Thrust-read (engine-of (nth-line d 1)) (nth-line d 16)
   thrust-read =
-    let r = line-clear w 16 (omega arith) (omega arith) in
-    subst (λ (x : Fields). Thrust-read (engine-of x) (nth-line d 16)) (getD-take 15 d 0 [] (omega arith))
-    (thrust-clear (engine-of (nth-line (take 15 d) 1)) (r .0) (nth-line d 16) (r .1))
+      let r = line-clear w 16 (omega arith) (omega arith) in
+      subst (λ (x : Fields). Thrust-read (engine-of x) (nth-line d 16)) (getD-take 15 d 0 [] (omega arith))
+      (thrust-clear (engine-of (nth-line (take 15 d) 1)) (r .0) (nth-line d 16) (r .1))
 
   descent-read : Descent-read (nth-line d 17)
   descent-read =
-    let r = line-clear w 17 (omega arith) (omega arith) in
-    let fs = nth-line d 17 in
-    let a = none-first _ _ (r .1) in
-    let b = none-first _ _ (a .1) in
-    let c = none-first _ _ (b .1) in
-    let e = none-first _ _ (c .1) in
-    let f = none-first _ _ (e .1) in
-    let g = none-first _ _ (f .1) in
-    record {
+      let r = line-clear w 17 (omega arith) (omega arith) in
+      let fs = nth-line d 17 in
+      let a = none-first _ _ (r .1) in
+      let b = none-first _ _ (a .1) in
+      let c = none-first _ _ (b .1) in
+      let e = none-first _ _ (c .1) in
+      let f = none-first _ _ (e .1) in
+      let g = none-first _ _ (f .1) in
+      record {
         low = natural-clear (r .0) fs 1 quantity.descent-factor (b .0);
         high = natural-clear (r .0) fs 2 quantity.descent-factor (c .0);
         level = natural-clear (r .0) fs 3 quantity.descent-level (e .0);
         approach = natural-clear (r .0) fs 4 quantity.descent-factor (f .0);
-        landing = natural-clear (r .0) fs 5 quantity.descent-factor (g .0) }
+        landing = natural-clear (r .0) fs 5 quantity.descent-factor (g .0);
+      }
 
   -- a line of which fields 1 and 2 are read
   two-read : (q s : Quantity) (n : ℕ) (fs : Fields) → first-of (two-faults n fs q s) ≡ None → Natural-read fs 1 q × Natural-read fs 2 s
   two-read q s n fs h =
-    let a = none-first _ _ h in
-    let b = none-first _ _ (a .1) in
-    (natural-clear n fs 1 q (b .0), natural-clear n fs 2 s (none-first _ _ (b .1) .0))
+      let a = none-first _ _ h in
+      let b = none-first _ _ (a .1) in
+      (natural-clear n fs 1 q (b .0), natural-clear n fs 2 s (none-first _ _ (b .1) .0))
 
   consumption-read : Natural-read (nth-line d 19) 1 quantity.cf1 × Natural-read (nth-line d 19) 2 quantity.cf2
   consumption-read = let r = line-clear w 19 (omega arith) (omega arith) in two-read quantity.cf1 quantity.cf2 (r .0) (nth-line d 19) (r .1)
@@ -230,7 +236,7 @@ module _ {d : List Fields} (w : Whole d) where
 
   pub all-ranged : Ranged (draft-of d)
   all-ranged =
-    record {
+      record {
         masses = record { light = masses-read .minimum .least; lower = masses-read .lower; upper = masses-read .upper; heavy = masses-read .maximum .most };
         ceiling-least = ceiling-read .least;
         ceiling-most = ceiling-read .most;
@@ -238,28 +244,31 @@ module _ {d : List Fields} (w : Whole d) where
         wing-most = wing-read .most;
         rows =
             record {
-                cruise = row-ranged (row-read w flaps.Cruise);
-                initial = row-ranged (row-read w flaps.InitialClimb);
-                takeoff = row-ranged (row-read w flaps.TakeOff);
-                approach = row-ranged (row-read w flaps.Approach);
-                landing = row-ranged (row-read w flaps.Landing);
-                clean = subst (λ (r : DraftRow). 100000 ≤ r .cd0) (sym (row-is (row-read w flaps.Cruise))) (row-read w flaps.Cruise .cd0 .least) };
+              cruise = row-ranged (row-read w flaps.Cruise);
+              initial = row-ranged (row-read w flaps.InitialClimb);
+              takeoff = row-ranged (row-read w flaps.TakeOff);
+              approach = row-ranged (row-read w flaps.Approach);
+              landing = row-ranged (row-read w flaps.Landing);
+              clean = subst (λ (r : DraftRow). 100000 ≤ r .cd0) (sym (row-is (row-read w flaps.Cruise))) (row-read w flaps.Cruise .cd0 .least);
+            };
         gear-most = gear-read .most;
         thrust = thrust-ranged (engine-of (nth-line d 1)) (nth-line d 16) thrust-read;
         temperature = record { cold = thrust-read .ctc4 .least; warm = thrust-read .ctc4 .most; steep = thrust-read .ctc5 .most };
         descent = record { low = descent-read .low .most; high = descent-read .high .most; level = descent-read .level .most; approach = descent-read .approach .most; landing = descent-read .landing .most };
         fuel =
             record {
-                cf1-least = consumption-read .0 .least;
-                cf1-most = consumption-read .0 .most;
-                cf2-least = consumption-read .1 .least;
-                cf2-most = consumption-read .1 .most;
-                cf3-least = idle-read .0 .least;
-                cf3-most = idle-read .0 .most;
-                cf4-least = idle-read .1 .least;
-                cf4-most = idle-read .1 .most };
+              cf1-least = consumption-read .0 .least;
+              cf1-most = consumption-read .0 .most;
+              cf2-least = consumption-read .1 .least;
+              cf2-most = consumption-read .1 .most;
+              cf3-least = idle-read .0 .least;
+              cf3-most = idle-read .0 .most;
+              cf4-least = idle-read .1 .least;
+              cf4-most = idle-read .1 .most;
+            };
         cruise-least = cruise-read .least;
-        cruise-most = cruise-read .most }
+        cruise-most = cruise-read .most;
+      }
 
   -- an aircraft with these values
   module _ (a : Aircraft) (same : values-of a ≡ draft-of d) where
@@ -269,18 +278,19 @@ module _ {d : List Fields} (w : Whole d) where
 
     row-printed : (c : Configuration) (r : Row) (g : Draft → DraftRow) → g (draft-of d) ≡ row-from (line-naming c (configuration-lines d)) → row-values r ≡ g (values-of a) → Row-printed (line-of d c) c r
     row-printed c r g e f =
-      let x = row-read w c in
-      let held = f ∙ ap g same ∙ e ∙ row-is x in
-      subst (λ (fs : Fields). Row-printed fs c r) (sym (ap (λ (o : Option Fields). valueOr o []) (x .line)))
-      (record {
+        let x = row-read w c in
+        let held = f ∙ ap g same ∙ e ∙ row-is x in
+        subst (λ (fs : Fields). Row-printed fs c r) (sym (ap (λ (o : Option Fields). valueOr o []) (x .line)))
+        (record {
           word = x .word;
           stall = subst (λ (v : ℕ). Prints-count (field (x .fs) (length (x .fs) - 3)) quantity.stall-speed v) (sym (ap (λ (y : DraftRow). y .stall) held)) (x .stall .prints);
           cd0 = subst (λ (v : ℕ). Prints-count (field (x .fs) (length (x .fs) - 2)) quantity.drag v) (sym (ap (λ (y : DraftRow). y .cd0) held)) (eight c (field (x .fs) (length (x .fs) - 2)) _ (x .cd0 .prints));
-          cd2 = subst (λ (v : ℕ). Prints-count (field (x .fs) (length (x .fs) - 1)) quantity.drag v) (sym (ap (λ (y : DraftRow). y .cd2) held)) (x .cd2 .prints) })
+          cd2 = subst (λ (v : ℕ). Prints-count (field (x .fs) (length (x .fs) - 1)) quantity.drag v) (sym (ap (λ (y : DraftRow). y .cd2) held)) (x .cd2 .prints);
+        })
 
     pub all-printed : Printed d a
     all-printed =
-      record {
+        record {
           engine = engine-read ∙ ap engine-word (sym (ap (λ (x : Draft). x .engine) same));
           reference = prints (λ x. x .masses .reference) refl (masses-read .reference);
           minimum = prints (λ x. x .masses .minimum) refl (masses-read .minimum);
@@ -305,7 +315,8 @@ module _ {d : List Fields} (w : Whole d) where
           cf2 = prints (λ x. x .consumption .cf2) refl (consumption-read .1);
           cf3 = prints (λ x. x .idle .cf3) refl (idle-read .0);
           cf4 = prints (λ x. x .idle .cf4) refl (idle-read .1);
-          cruise = prints (λ x. x .cruise) refl cruise-read }
+          cruise = prints (λ x. x .cruise) refl cruise-read;
+        }
 
 pub judged-well : {X : Type 0} (o : Option Fault) (x y : X) → Ok x ≡ judge o y → (o ≡ None) × (x ≡ y)
 judged-well None x y e = (refl, cc)

@@ -81,8 +81,8 @@ module _ {d : List Fields} (w : Whole d) where
   before : (i : ℕ) → i ≤ 5 → configuration-lines (take (4 + i) d) ≡ take i rest
   unfolding rest
   before i h =
-    ap (take 5) (drop-take 4 i d)
-    ∙ take-all 5 (take i (drop 4 d)) (omega (arith, length-take-le i (drop 4 d) (omega (arith, rest-long))))
+      ap (take 5) (drop-take 4 i d)
+      ∙ take-all 5 (take i (drop 4 d)) (omega (arith, length-take-le i (drop 4 d) (omega (arith, rest-long))))
 
   -- the i-th of them: it names a configuration that none before it names, and its numbers have no fault
   record Line-good (i : ℕ) : Type 0 where
@@ -95,40 +95,41 @@ module _ {d : List Fields} (w : Whole d) where
   line-good : (i : ℕ) → i < 5 → Line-good i
   unfolding rest
   line-good i h =
-    let r = w .clear (4 + i) (omega (arith, w .count)) in
-    let n = r .0 in
-    let place : length (take (4 + i) d) + 1 ≡ 5 + i = omega (arith, length-take-le (4 + i) d (omega (arith, w .count))) in
-    let k = length (take (4 + i) d) + 1 in
-    let inside : (leb 5 k && leb k 9) ≡ true = and-from (leb 5 k) (leb k 9) (le-leb 5 k (omega arith)) (le-leb k 9 (omega arith)) in
-    let judged = ap first-of (sym (faults-inside k n (engine-of (nth-line (take (4 + i) d) 1)) (came (take (4 + i) d)) (getD d (4 + i) []) inside)) ∙ none-first _ _ (r .1) .1 in
-    let words = none-first _ _ (none-first _ _ judged .1) in
-    let c = new-named n (came (take (4 + i) d)) (configuration-of (getD d (4 + i) [])) (words .0) in
-    let here : getD (drop 4 d) i [] ≡ getD d (4 + i) [] = getD-drop 4 d i [] in
-    record {
+      let r = w .clear (4 + i) (omega (arith, w .count)) in
+      let n = r .0 in
+      let place : length (take (4 + i) d) + 1 ≡ 5 + i = omega (arith, length-take-le (4 + i) d (omega (arith, w .count))) in
+      let k = length (take (4 + i) d) + 1 in
+      let inside : (leb 5 k && leb k 9) ≡ true = and-from (leb 5 k) (leb k 9) (le-leb 5 k (omega arith)) (le-leb k 9 (omega arith)) in
+      let judged = ap first-of (sym (faults-inside k n (engine-of (nth-line (take (4 + i) d) 1)) (came (take (4 + i) d)) (getD d (4 + i) []) inside)) ∙ none-first _ _ (r .1) .1 in
+      let words = none-first _ _ (none-first _ _ judged .1) in
+      let c = new-named n (came (take (4 + i) d)) (configuration-of (getD d (4 + i) [])) (words .0) in
+      let here : getD (drop 4 d) i [] ≡ getD d (4 + i) [] = getD-drop 4 d i [] in
+      record {
         configuration = c .0;
         named = ap configuration-of here ∙ c .1;
         new = ap (λ (xs : List Fields). isSome (line-naming (c .0) xs)) (sym (before i (omega arith))) ∙ c .2;
         number = n;
-        clear = ap (λ (fs : Fields). first-of (row-faults n fs)) here ∙ words .1 }
+        clear = ap (λ (fs : Fields). first-of (row-faults n fs)) here ∙ words .1;
+      }
 
   tallied : (i : ℕ) → i ≤ 5 → tally (take i rest) ≡ i
   unfolding bit
   tallied zero h = refl
   tallied (suc i) h =
-    let g = line-good i (omega arith) in
-    let more : take (suc i) rest ≡ take i rest ++ (getD rest i [] ∷ []) = ap (λ (j : ℕ). take j rest) (sym (add-one i)) ∙ take-more rest i [] (omega (arith, rest-long)) in
-    ap tally more ∙ tally-more (take i rest) (getD rest i []) (g .configuration) (g .named) (g .new) ∙ omega (arith, tallied i (omega arith))
+      let g = line-good i (omega arith) in
+      let more : take (suc i) rest ≡ take i rest ++ (getD rest i [] ∷ []) = ap (λ (j : ℕ). take j rest) (sym (add-one i)) ∙ take-more rest i [] (omega (arith, rest-long)) in
+      ap tally more ∙ tally-more (take i rest) (getD rest i []) (g .configuration) (g .named) (g .new) ∙ omega (arith, tallied i (omega arith))
 
   all-named : (c : Configuration) → isSome (line-naming c (take 5 rest)) ≡ true
   all-named c =
-    let five = tallied 5 (omega arith) in
-    let a = bit-most (isSome (line-naming flaps.Cruise (take 5 rest))) in
-    let b = bit-most (isSome (line-naming flaps.InitialClimb (take 5 rest))) in
-    let e = bit-most (isSome (line-naming flaps.TakeOff (take 5 rest))) in
-    let f = bit-most (isSome (line-naming flaps.Approach (take 5 rest))) in
-    let g = bit-most (isSome (line-naming flaps.Landing (take 5 rest))) in
-    bit-full (isSome (line-naming c (take 5 rest)))
-    (elim c as (λ x. named-bit x (take 5 rest) ≡ 1) [ flaps.Cruise ↦ omega arith | flaps.InitialClimb ↦ omega arith | flaps.TakeOff ↦ omega arith | flaps.Approach ↦ omega arith | flaps.Landing ↦ omega arith ])
+      let five = tallied 5 (omega arith) in
+      let a = bit-most (isSome (line-naming flaps.Cruise (take 5 rest))) in
+      let b = bit-most (isSome (line-naming flaps.InitialClimb (take 5 rest))) in
+      let e = bit-most (isSome (line-naming flaps.TakeOff (take 5 rest))) in
+      let f = bit-most (isSome (line-naming flaps.Approach (take 5 rest))) in
+      let g = bit-most (isSome (line-naming flaps.Landing (take 5 rest))) in
+      bit-full (isSome (line-naming c (take 5 rest)))
+      (elim c as (λ x. named-bit x (take 5 rest) ≡ 1) [ flaps.Cruise ↦ omega arith | flaps.InitialClimb ↦ omega arith | flaps.TakeOff ↦ omega arith | flaps.Approach ↦ omega arith | flaps.Landing ↦ omega arith ])
 
 -- The line that names a configuration.
 
@@ -171,10 +172,11 @@ row-read {d} w c =
     let q = none-first _ _ (p .1) in
     let s = none-first _ _ (q .1) in
     record {
-        fs = fs;
-        line = r .1;
-        word = r .2;
-        stall = natural-clear (r .3 .0) fs (length fs - 3) quantity.stall-speed (p .0);
-        cd0 = subst (λ (o : Option Configuration). Natural-read fs (length fs - 2) (parasitic o)) own (natural-clear (r .3 .0) fs (length fs - 2) (parasitic (configuration-of fs)) (q .0));
-        cd2 = natural-clear (r .3 .0) fs (length fs - 1) quantity.drag (s .0);
-        own = own }
+      fs = fs;
+      line = r .1;
+      word = r .2;
+      stall = natural-clear (r .3 .0) fs (length fs - 3) quantity.stall-speed (p .0);
+      cd0 = subst (λ (o : Option Configuration). Natural-read fs (length fs - 2) (parasitic o)) own (natural-clear (r .3 .0) fs (length fs - 2) (parasitic (configuration-of fs)) (q .0));
+      cd2 = natural-clear (r .3 .0) fs (length fs - 1) quantity.drag (s .0);
+      own = own;
+    }

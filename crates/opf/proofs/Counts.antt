@@ -40,9 +40,9 @@ pub fixed-up : (d a b n : ℕ) → a ≡ b + n → fixed-point d a b ≡ Some (d
 unfolding fixed-point
 fixed-up d a b n up =
     let e : d * 10 ^ a ≡ (d * 10 ^ n) * 10 ^ b =
-        ap (λ (k : ℕ). d * 10 ^ k) up
-        ∙ ap (λ (p : ℕ). d * p) (pow-add 10 b n ∙ mul-comm (10 ^ b) (10 ^ n))
-        ∙ sym (mul-assoc d (10 ^ n) (10 ^ b)) in
+    ap (λ (k : ℕ). d * 10 ^ k) up
+    ∙ ap (λ (p : ℕ). d * p) (pow-add 10 b n ∙ mul-comm (10 ^ b) (10 ^ n))
+    ∙ sym (mul-assoc d (10 ^ n) (10 ^ b)) in
     rw (e, mul-mod-left (d * 10 ^ n) (10 ^ b), mul-div-cancel (d * 10 ^ n) (ten-pos b))
 
 zero-times : (x p : ℕ) → 0 < p → eqb (x * p) 0 ≡ eqb x 0
@@ -57,10 +57,10 @@ fixed-down d a b n down =
     let e : 10 ^ b ≡ 10 ^ n * 10 ^ a = ap (λ (k : ℕ). 10 ^ k) down ∙ pow-add 10 n a in
     let q : d * 10 ^ a / (10 ^ n * 10 ^ a) ≡ d / 10 ^ n = mul-div-mul-right d (10 ^ n) (ten-pos a) in
     let r : (d * 10 ^ a) % (10 ^ n * 10 ^ a) ≡ (d % 10 ^ n) * 10 ^ a =
-        mod-mul (d * 10 ^ a) (ten-pos n) (ten-pos a)
-        ∙ ap (λ (m : ℕ). (m % 10 ^ n) * 10 ^ a + (d * 10 ^ a) % 10 ^ a) (mul-div-cancel d (ten-pos a))
-        ∙ ap (λ (m : ℕ). (d % 10 ^ n) * 10 ^ a + m) (mul-mod-left d (10 ^ a))
-        ∙ add-zero ((d % 10 ^ n) * 10 ^ a) in
+    mod-mul (d * 10 ^ a) (ten-pos n) (ten-pos a)
+    ∙ ap (λ (m : ℕ). (m % 10 ^ n) * 10 ^ a + (d * 10 ^ a) % 10 ^ a) (mul-div-cancel d (ten-pos a))
+    ∙ ap (λ (m : ℕ). (d % 10 ^ n) * 10 ^ a + m) (mul-mod-left d (10 ^ a))
+    ∙ add-zero ((d % 10 ^ n) * 10 ^ a) in
     rw (e, q, r) (ap (λ (t : Bool). cond t (Some (d / 10 ^ n)) None) (zero-times (d % 10 ^ n) (10 ^ a) (ten-pos a)))
 
 pub fixed-zero : (a b : ℕ) → fixed-point 0 a b ≡ Some 0
@@ -153,7 +153,7 @@ natural-none q m (Some w) e =
     (λ t. let some : None ≡ Some w = rw t at e in absurd (let z : _≡_ {A = ℕ} 0 1 = cc in omega arith))
     (λ f.
     let out : within q m w ≡ false =
-        and-left (leb (q .low) w && leb w (q .high)) (eqb w 0 || not m) (and-right (leb (q .low) w) (leb w (q .high)) f) in
+    and-left (leb (q .low) w && leb w (q .high)) (eqb w 0 || not m) (and-right (leb (q .low) w) (leb w (q .high)) f) in
     rw out)
     (cases-bool (leb w (q .high)))
 

@@ -215,17 +215,18 @@ draft-more ds fs k n e good =
     sym
     (λ i.
     record {
-        engine = at-line engine-of ds fs 1 k e (omega arith) i;
-        masses = at-line masses-of ds fs 2 k e (omega arith) i;
-        ceiling = at-line (λ x. natural x 3 quantity.ceiling) ds fs 3 k e (omega arith) i;
-        wing = at-line (λ x. natural x 2 quantity.wing-area) ds fs 4 k e (omega arith) i;
-        rows = rows-taken ds fs k n (engine-of (nth-line ds 1)) e good i;
-        gear = at-line (λ x. natural x 3 quantity.drag) ds fs 13 k e (omega arith) i;
-        thrust = thrust-more ds fs k e i;
-        descent = at-line descent-of ds fs 17 k e (omega arith) i;
-        consumption = at-line consumption-of ds fs 19 k e (omega arith) i;
-        idle = at-line idle-of ds fs 20 k e (omega arith) i;
-        cruise = at-line (λ x. natural x 1 quantity.cruise-factor) ds fs 21 k e (omega arith) i })
+      engine = at-line engine-of ds fs 1 k e (omega arith) i;
+      masses = at-line masses-of ds fs 2 k e (omega arith) i;
+      ceiling = at-line (λ x. natural x 3 quantity.ceiling) ds fs 3 k e (omega arith) i;
+      wing = at-line (λ x. natural x 2 quantity.wing-area) ds fs 4 k e (omega arith) i;
+      rows = rows-taken ds fs k n (engine-of (nth-line ds 1)) e good i;
+      gear = at-line (λ x. natural x 3 quantity.drag) ds fs 13 k e (omega arith) i;
+      thrust = thrust-more ds fs k e i;
+      descent = at-line descent-of ds fs 17 k e (omega arith) i;
+      consumption = at-line consumption-of ds fs 19 k e (omega arith) i;
+      idle = at-line idle-of ds fs 20 k e (omega arith) i;
+      cruise = at-line (λ x. natural x 1 quantity.cruise-factor) ds fs 21 k e (omega arith) i;
+    })
 
 -- a data line is judged by the record so far as by the earlier lines
 pub judged-alike : (data-lines : List Fields) (fs : Fields) (k n : ℕ) (d : Draft) → length data-lines + 1 ≡ k → k ≤ 22 → d ≡ draft-of data-lines → data-fault n data-lines fs ≡ first-of (faults-at k n (d .engine) (filled d) fs)
@@ -255,6 +256,7 @@ refused-line ds fs fs′ k n d f e most same held bad =
 
 pub taken-line : (data-lines : List Fields) (fs fs′ : Fields) (k n : ℕ) (d d′ : Draft) → length data-lines + 1 ≡ k → k ≤ 22 → d ≡ draft-of data-lines → fs′ ≡ fs → (first-of (faults-at k n (d .engine) (filled d) fs′) ≡ None) × (d′ ≡ after-line k d fs′) → (data-fault n data-lines fs ≡ None) × (d′ ≡ draft-of (data-lines ++ (fs ∷ [])))
 taken-line ds fs fs′ k n d d′ e most same held good =
-    let clear = ap (λ x. first-of (faults-at k n (d .engine) (filled d) x)) (sym held) ∙ good .0 in
-    (judged-alike ds fs k n d e most same ∙ clear,
-    good .1 ∙ ap (after-line k d) held ∙ draft-after ds fs k n d e same clear)
+    let clear = ap (λ x. first-of (faults-at k n (d .engine) (filled d) x)) (sym held) ∙ good .0 in (
+      judged-alike ds fs k n d e most same ∙ clear,
+      good .1 ∙ ap (after-line k d) held ∙ draft-after ds fs k n d e same clear,
+    )

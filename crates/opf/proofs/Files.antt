@@ -54,21 +54,22 @@ module _ (all : List (List ℕ)) (n : ℕ) (d : List Fields) (l : List ℕ) (ls 
   rest-fault = ap (λ (f : Option Fault). or-else f (cond (is-end l) (unless (blank ls) (fault.AfterEnd n)) (lines-fault (n + 1) (d ++ own-fields l) ls))) clear
 
   pub goes-on : false ≡ is-end l → (lines-fault (n + 1) (d ++ own-fields l) ls ≡ lines-fault 1 [] all) × ((d ++ own-fields l) ++ data-lines ls ≡ data-lines all)
-  goes-on e =
-    (ap (λ (b : Bool). cond b (unless (blank ls) (fault.AfterEnd n)) (lines-fault (n + 1) (d ++ own-fields l) ls)) e ∙ sym rest-fault ∙ faults,
-    append-assoc d (own-fields l) (data-lines ls) ∙ given)
+  goes-on e = (
+    ap (λ (b : Bool). cond b (unless (blank ls) (fault.AfterEnd n)) (lines-fault (n + 1) (d ++ own-fields l) ls)) e ∙ sym rest-fault ∙ faults,
+    append-assoc d (own-fields l) (data-lines ls) ∙ given,
+  )
 
   pub ends-well : (x : Draft) → true ≡ is-end l → true ≡ blank ls → x ≡ draft-of (d ++ own-fields l) → Ok x ≡ judge (lines-fault 1 [] all) (draft-of (data-lines all))
   ends-well x e b g =
-    let none : lines-fault 1 [] all ≡ None =
-        sym faults
-        ∙ rest-fault
-        ∙ ap (λ (t : Bool). cond t (unless (blank ls) (fault.AfterEnd n)) (lines-fault (n + 1) (d ++ own-fields l) ls)) (sym e)
-        ∙ ap (λ (t : Bool). unless t (fault.AfterEnd n)) (sym b) in
-    let whole : d ++ own-fields l ≡ data-lines all =
-        ap (λ (r : List Fields). d ++ r) (sym (append-nil (own-fields l)) ∙ ap (λ (r : List Fields). own-fields l ++ r) (sym (blank-has-none ls (sym b))))
-        ∙ given in
-    ap Ok (g ∙ ap draft-of whole) ∙ ap (λ (f : Option Fault). judge f (draft-of (data-lines all))) (sym none)
+      let none : lines-fault 1 [] all ≡ None =
+      sym faults
+      ∙ rest-fault
+      ∙ ap (λ (t : Bool). cond t (unless (blank ls) (fault.AfterEnd n)) (lines-fault (n + 1) (d ++ own-fields l) ls)) (sym e)
+      ∙ ap (λ (t : Bool). unless t (fault.AfterEnd n)) (sym b) in
+      let whole : d ++ own-fields l ≡ data-lines all =
+      ap (λ (r : List Fields). d ++ r) (sym (append-nil (own-fields l)) ∙ ap (λ (r : List Fields). own-fields l ++ r) (sym (blank-has-none ls (sym b))))
+      ∙ given in
+      ap Ok (g ∙ ap draft-of whole) ∙ ap (λ (f : Option Fault). judge f (draft-of (data-lines all))) (sym none)
 
 pub no-end : (all : List (List ℕ)) (n : ℕ) (d : List Fields) → lines-fault n d [] ≡ lines-fault 1 [] all → Err fault.NoEnd ≡ judge (lines-fault 1 [] all) (draft-of (data-lines all))
 no-end all n d e = ap (λ (f : Option Fault). judge f (draft-of (data-lines all))) e

@@ -60,14 +60,14 @@ module _ (ls : List (List ℕ)) (onward : (m : ℕ) (e : List Fields) → lines-
   by-kind : (o : Option Line) (n : ℕ) (d : List Fields) → by-line o None (λ s. data-fault n d (fields s)) (unless (leb 22 (length d)) (fault.DataLines n)) (Some (fault.LineStart n)) ≡ None → cond (by-line o false (λ s. false) true false) (unless (blank ls) (fault.AfterEnd n)) (lines-fault (n + 1) (d ++ by-line o [] (λ s. fields s ∷ []) [] []) ls) ≡ None → Clear d → Whole (d ++ (by-line o [] (λ s. fields s ∷ []) [] [] ++ data-lines ls))
   by-kind None n d e f c = absurd (some-is-not-none (fault.LineStart n) e)
   by-kind (Some (comment s)) n d e f c =
-    let same : d ++ [] ≡ d = append-nil d in
-    onward (n + 1) d (ap (λ (x : List Fields). lines-fault (n + 1) x ls) (sym same) ∙ f) c
+      let same : d ++ [] ≡ d = append-nil d in
+      onward (n + 1) d (ap (λ (x : List Fields). lines-fault (n + 1) x ls) (sym same) ∙ f) c
   by-kind (Some (data-line s)) n d e f c =
-    subst Whole (append-assoc d (fields s ∷ []) (data-lines ls)) (onward (n + 1) (d ++ (fields s ∷ [])) f (clear-more d (fields s) n c e))
+      subst Whole (append-assoc d (fields s ∷ []) (data-lines ls)) (onward (n + 1) (d ++ (fields s ∷ [])) f (clear-more d (fields s) n c e))
   by-kind (Some (last s)) n d e f c =
-    let least = leb-true 22 (length d) (test-holds (leb 22 (length d)) (fault.DataLines n) e) in
-    let none = blank-has-none ls (test-holds (blank ls) (fault.AfterEnd n) f) in
-    subst Whole (sym (append-nil d) ∙ ap (λ (x : List Fields). d ++ x) (sym none)) (record { clear = c; count = omega (arith, few d c, least) })
+      let least = leb-true 22 (length d) (test-holds (leb 22 (length d)) (fault.DataLines n) e) in
+      let none = blank-has-none ls (test-holds (blank ls) (fault.AfterEnd n) f) in
+      subst Whole (sym (append-nil d) ∙ ap (λ (x : List Fields). d ++ x) (sym none)) (record { clear = c; count = omega (arith, few d c, least) })
 
 pub whole-from : (ls : List (List ℕ)) (n : ℕ) (d : List Fields) → lines-fault n d ls ≡ None → Clear d → Whole (d ++ data-lines ls)
 whole-from [] n d e c = absurd (some-is-not-none fault.NoEnd e)
@@ -80,7 +80,8 @@ pub line-clear : {d : List Fields} → Whole d → (k : ℕ) → 1 ≤ k → k �
 line-clear {d} w k low high =
     let within : k - 1 < length d = omega (arith, w .count) in
     let r = w .clear (k - 1) within in
-    let place : length (take (k - 1) d) + 1 ≡ k = omega (arith, length-take-le (k - 1) d (omega arith)) in
-    (r .0,
-    ap (λ (j : ℕ). first-of (faults-at j (r .0) (engine-of (nth-line (take (k - 1) d) 1)) (came (take (k - 1) d)) (nth-line d k))) (sym place)
-    ∙ none-first _ _ (r .1) .1)
+    let place : length (take (k - 1) d) + 1 ≡ k = omega (arith, length-take-le (k - 1) d (omega arith)) in (
+      r .0,
+      ap (λ (j : ℕ). first-of (faults-at j (r .0) (engine-of (nth-line (take (k - 1) d) 1)) (came (take (k - 1) d)) (nth-line d k))) (sym place)
+          ∙ none-first _ _ (r .1) .1,
+    )

@@ -16,6 +16,7 @@ module _ {X : Type 0} (n k : ℕ) (value : Number → Option X) (o : Option Numb
   without-value x e v = ap (λ (p : Option Number). number-fault n k p value) (sym e) ∙ rw (← v)
 
   pub with-value : (x : Number) (y d : X) → Some x ≡ o → Some y ≡ value x → (number-fault n k o value ≡ None) × (y ≡ valueOr (bound o value) d)
-  with-value x y d e v =
-    (ap (λ (p : Option Number). number-fault n k p value) (sym e) ∙ rw (← v),
-    ap (λ (r : Option X). valueOr r d) v ∙ ap (λ (p : Option Number). valueOr (bound p value) d) e)
+  with-value x y d e v = (
+    ap (λ (p : Option Number). number-fault n k p value) (sym e) ∙ rw (← v),
+    ap (λ (r : Option X). valueOr r d) v ∙ ap (λ (p : Option Number). valueOr (bound p value) d) e,
+  )

@@ -14,7 +14,6 @@ use Rattle.refusal.specs.declared.fault.Fault.the-variants as fault
 use Rattle.aircraft.specs.declared.words.EngineType.{EngineType}
 use Rattle.aircraft.specs.declared.words.EngineType.the-variants as engine
 use Rattle.aircraft.specs.declared.words.Configuration.{Configuration}
-use Rattle.aircraft.specs.declared.words.Configuration.the-variants as flaps
 use Rattle.aircraft.specs.declared.draft.DraftMasses.{DraftMasses}
 use Rattle.aircraft.specs.declared.draft.DraftRow.{DraftRow}
 use Rattle.aircraft.specs.declared.draft.DraftThrust.{DraftThrust}
@@ -115,10 +114,11 @@ parasitic (Some c) = quantity.parasitic-drag c
 abbrev pub row-of : Fields → DraftRow
 row-of fs =
     record {
-        stall = natural fs (length fs - 3) quantity.stall-speed;
-        cd0 = natural fs (length fs - 2) (parasitic (configuration-of fs));
-        cd2 = natural fs (length fs - 1) quantity.drag;
-        given = true }
+      stall = natural fs (length fs - 3) quantity.stall-speed;
+      cd0 = natural fs (length fs - 2) (parasitic (configuration-of fs));
+      cd2 = natural fs (length fs - 1) quantity.drag;
+      given = true;
+    }
 
 abbrev pub row-from : Option Fields → DraftRow
 row-from None = no-row
@@ -152,11 +152,12 @@ ctc3-of engine.Turboprop fs = integer fs 3 quantity.turboprop-ctc3
 abbrev pub thrust-of : EngineType → Fields → DraftThrust
 thrust-of e fs =
     record {
-        ctc1 = natural fs 1 (quantity.ctc1 e);
-        ctc2 = natural fs 2 quantity.ctc2;
-        ctc3 = ctc3-of e fs;
-        ctc4 = integer fs 4 quantity.ctc4;
-        ctc5 = natural fs 5 quantity.ctc5 }
+      ctc1 = natural fs 1 (quantity.ctc1 e);
+      ctc2 = natural fs 2 quantity.ctc2;
+      ctc3 = ctc3-of e fs;
+      ctc4 = integer fs 4 quantity.ctc4;
+      ctc5 = natural fs 5 quantity.ctc5;
+    }
 
 abbrev pub thrust-faults : EngineType → ℕ → Fields → List (Option Fault)
 thrust-faults e n fs =
@@ -173,11 +174,12 @@ thrust-faults e n fs =
 abbrev pub descent-of : Fields → DraftDescent
 descent-of fs =
     record {
-        low = natural fs 1 quantity.descent-factor;
-        high = natural fs 2 quantity.descent-factor;
-        level = natural fs 3 quantity.descent-level;
-        approach = natural fs 4 quantity.descent-factor;
-        landing = natural fs 5 quantity.descent-factor }
+      low = natural fs 1 quantity.descent-factor;
+      high = natural fs 2 quantity.descent-factor;
+      level = natural fs 3 quantity.descent-level;
+      approach = natural fs 4 quantity.descent-factor;
+      landing = natural fs 5 quantity.descent-factor;
+    }
 
 abbrev pub descent-faults : ℕ → Fields → List (Option Fault)
 descent-faults n fs =

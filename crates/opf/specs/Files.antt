@@ -68,23 +68,24 @@ file-fault text = or-else (size-fault text) (lines-fault 1 [] (lines text))
 abbrev pub draft-of : List Fields → Draft
 draft-of d =
     record {
-        engine = engine-of (nth-line d 1);
-        masses = masses-of (nth-line d 2);
-        ceiling = natural (nth-line d 3) 3 quantity.ceiling;
-        wing = natural (nth-line d 4) 2 quantity.wing-area;
-        rows =
-            row-from (line-naming flaps.Cruise (configuration-lines d))
-            ∷ row-from (line-naming flaps.InitialClimb (configuration-lines d))
-            ∷ row-from (line-naming flaps.TakeOff (configuration-lines d))
-            ∷ row-from (line-naming flaps.Approach (configuration-lines d))
-            ∷ row-from (line-naming flaps.Landing (configuration-lines d))
-            ∷ [];
-        gear = natural (nth-line d 13) 3 quantity.drag;
-        thrust = thrust-of (engine-of (nth-line d 1)) (nth-line d 16);
-        descent = descent-of (nth-line d 17);
-        consumption = consumption-of (nth-line d 19);
-        idle = idle-of (nth-line d 20);
-        cruise = natural (nth-line d 21) 1 quantity.cruise-factor }
+      engine = engine-of (nth-line d 1);
+      masses = masses-of (nth-line d 2);
+      ceiling = natural (nth-line d 3) 3 quantity.ceiling;
+      wing = natural (nth-line d 4) 2 quantity.wing-area;
+      rows =
+          row-from (line-naming flaps.Cruise (configuration-lines d))
+          ∷ row-from (line-naming flaps.InitialClimb (configuration-lines d))
+          ∷ row-from (line-naming flaps.TakeOff (configuration-lines d))
+          ∷ row-from (line-naming flaps.Approach (configuration-lines d))
+          ∷ row-from (line-naming flaps.Landing (configuration-lines d))
+          ∷ [];
+      gear = natural (nth-line d 13) 3 quantity.drag;
+      thrust = thrust-of (engine-of (nth-line d 1)) (nth-line d 16);
+      descent = descent-of (nth-line d 17);
+      consumption = consumption-of (nth-line d 19);
+      idle = idle-of (nth-line d 20);
+      cruise = natural (nth-line d 21) 1 quantity.cruise-factor;
+    }
 
 -- the first fault of a file, or what its data lines give
 abbrev pub read-file : List ℕ → Result Draft Fault

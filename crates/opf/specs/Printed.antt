@@ -14,7 +14,6 @@ use Rattle.aircraft.specs.declared.words.EngineType.the-variants as engine
 use Rattle.aircraft.specs.declared.record.Aircraft.{Aircraft}
 use Rattle.aircraft.specs.declared.record.Engine.{Engine}
 use Rattle.aircraft.specs.declared.record.Engine.the-variants as kind
-use Rattle.aircraft.specs.declared.record.Fuel.{Fuel}
 use Rattle.aircraft.specs.declared.record.Row.{Row}
 use Rattle.aircraft.specs.declared.record.JetCoefficients.{JetCoefficients}
 use Rattle.aircraft.specs.declared.record.TurbopropCoefficients.{TurbopropCoefficients}

@@ -2,7 +2,7 @@
 use mathlib.Core.Path.{_≡_}
 use mathlib.Core.Bool.{true}
 use mathlib.Core.List.{List, [], _∷_}
-use Prim.Native.Nat.{ℕ, _≤_}
+use Prim.Native.Nat.{_≤_}
 use lib.IntN.{pos, negsuc}
 use lib.ListN.{getD}
 use lib.Signed.{_≤ℤ_}
@@ -61,17 +61,18 @@ idle-values f = record { cf3 = f .cf3; cf4 = f .cf4 }
 abbrev pub values-of : Aircraft → Draft
 values-of a =
     record {
-        engine = engine-type (a .engine);
-        masses = masses-values (a .masses);
-        ceiling = a .ceiling;
-        wing = a .wing;
-        rows = rows-values (a .rows);
-        gear = a .gear;
-        thrust = thrust-values (a .engine) (a .temperature);
-        descent = descent-values (a .descent);
-        consumption = consumption-values (fuel-of (a .engine));
-        idle = idle-values (fuel-of (a .engine));
-        cruise = a .cruise }
+      engine = engine-type (a .engine);
+      masses = masses-values (a .masses);
+      ceiling = a .ceiling;
+      wing = a .wing;
+      rows = rows-values (a .rows);
+      gear = a .gear;
+      thrust = thrust-values (a .engine) (a .temperature);
+      descent = descent-values (a .descent);
+      consumption = consumption-values (fuel-of (a .engine));
+      idle = idle-values (fuel-of (a .engine));
+      cruise = a .cruise;
+    }
 
 abbrev pub read-values : Result Aircraft Fault → Result Draft Fault
 read-values (Ok a) = Ok (values-of a)

@@ -29,17 +29,18 @@ rows-with rows (Some c) row = set rows (configuration-row c) row
 abbrev pub after-line : ℕ → Draft → Fields → Draft
 after-line k d fs =
     record {
-        engine = cond (eqb k 1) (engine-of fs) (d .engine);
-        masses = cond (eqb k 2) (masses-of fs) (d .masses);
-        ceiling = cond (eqb k 3) (natural fs 3 quantity.ceiling) (d .ceiling);
-        wing = cond (eqb k 4) (natural fs 2 quantity.wing-area) (d .wing);
-        rows = cond (leb 5 k && leb k 9) (rows-with (d .rows) (configuration-of fs) (row-of fs)) (d .rows);
-        gear = cond (eqb k 13) (natural fs 3 quantity.drag) (d .gear);
-        thrust = cond (eqb k 16) (thrust-of (d .engine) fs) (d .thrust);
-        descent = cond (eqb k 17) (descent-of fs) (d .descent);
-        consumption = cond (eqb k 19) (consumption-of fs) (d .consumption);
-        idle = cond (eqb k 20) (idle-of fs) (d .idle);
-        cruise = cond (eqb k 21) (natural fs 1 quantity.cruise-factor) (d .cruise) }
+      engine = cond (eqb k 1) (engine-of fs) (d .engine);
+      masses = cond (eqb k 2) (masses-of fs) (d .masses);
+      ceiling = cond (eqb k 3) (natural fs 3 quantity.ceiling) (d .ceiling);
+      wing = cond (eqb k 4) (natural fs 2 quantity.wing-area) (d .wing);
+      rows = cond (leb 5 k && leb k 9) (rows-with (d .rows) (configuration-of fs) (row-of fs)) (d .rows);
+      gear = cond (eqb k 13) (natural fs 3 quantity.drag) (d .gear);
+      thrust = cond (eqb k 16) (thrust-of (d .engine) fs) (d .thrust);
+      descent = cond (eqb k 17) (descent-of fs) (d .descent);
+      consumption = cond (eqb k 19) (consumption-of fs) (d .consumption);
+      idle = cond (eqb k 20) (idle-of fs) (d .idle);
+      cruise = cond (eqb k 21) (natural fs 1 quantity.cruise-factor) (d .cruise);
+    }
 
 -- the record after the line, unless it has a fault
 abbrev pub Takes : Result (Unit {0}) Fault → Option Fault → Draft → Draft → Type 0

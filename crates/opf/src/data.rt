@@ -41,11 +41,17 @@ impl DataLine<'_> {
         ensures bound { λ r. ⌜ made r (λ v. v ≤ q .high) ⌝ }
     {
         let Some(x) = numbers::number(self.field(k)) else {
-            return Err(Fault::NumberForm { line: self.number, field: k });
+            return Err(Fault::NumberForm {
+                line: self.number,
+                field: k,
+            });
         };
         match numbers::natural(x, q) {
             Some(v) => Ok(v),
-            None => Err(Fault::Value { line: self.number, field: k }),
+            None => Err(Fault::Value {
+                line: self.number,
+                field: k,
+            }),
         }
     }
 
@@ -57,11 +63,17 @@ impl DataLine<'_> {
         ensures { λ r. ⌜ Judges r (signed-fault (now (self .entry) .number) (line-fields (now (self .entry))) k q) (integer (line-fields (now (self .entry))) k q) ⌝ }
     {
         let Some(x) = numbers::number(self.field(k)) else {
-            return Err(Fault::NumberForm { line: self.number, field: k });
+            return Err(Fault::NumberForm {
+                line: self.number,
+                field: k,
+            });
         };
         match numbers::signed(x, q) {
             Some(v) => Ok(v),
-            None => Err(Fault::Value { line: self.number, field: k }),
+            None => Err(Fault::Value {
+                line: self.number,
+                field: k,
+            }),
         }
     }
 }

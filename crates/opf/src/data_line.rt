@@ -22,7 +22,10 @@ impl Progress {
         if self.place > 22 {
             return Err(Fault::DataLines { line: number });
         }
-        let line = DataLine { number, text: up_to_slash(rest) };
+        let line = DataLine {
+            number,
+            text: up_to_slash(rest),
+        };
         let place = self.place;
         take_line(&mut self.draft, place, &line)?;
         self.place = place + 1;

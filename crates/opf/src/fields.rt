@@ -41,7 +41,10 @@ fn first_field(s: &[u8]) -> Option<Field<'_>>
     if n == 0 {
         return None;
     }
-    Some(Field { bytes: &text[0..n], rest: &text[n..] })
+    Some(Field {
+        bytes: &text[0..n],
+        rest: &text[n..],
+    })
 }
 
 pub(crate) fn field_count(s: &[u8]) -> usize

@@ -56,7 +56,10 @@ pub(crate) fn read_lines(text: &[u8]) -> Result<Draft, Fault>
     requires { ⌜ length (now text) ≤ 32768 ⌝ }
     ensures { λ r. ⌜ r ≡ judge (lines-fault 1 [] (lines (now (text .entry)))) (draft-of (data-lines (lines (now (text .entry))))) ⌝ }
 {
-    let mut progress = Progress { draft: Draft::empty(), place: 1 };
+    let mut progress = Progress {
+        draft: Draft::empty(),
+        place: 1,
+    };
     let mut rest = text;
     let mut number = 1;
     while !rest.is_empty() {

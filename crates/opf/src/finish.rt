@@ -27,28 +27,48 @@ fn masses(m: DraftMasses) -> Masses
     requires { ⌜ Ranged-masses m ⌝ }
     ensures { λ r. ⌜ masses-values r ≡ m ⌝ }
 {
-    Masses { reference: m.reference, minimum: m.minimum, maximum: m.maximum }
+    Masses {
+        reference: m.reference,
+        minimum: m.minimum,
+        maximum: m.maximum,
+    }
 }
 
 fn row(d: DraftRow) -> Row
     requires { ⌜ Ranged-row d ⌝ }
     ensures { λ r. ⌜ row-values r ≡ d ⌝ }
 {
-    Row { stall: d.stall, cd0: d.cd0, cd2: d.cd2 }
+    Row {
+        stall: d.stall,
+        cd0: d.cd0,
+        cd2: d.cd2,
+    }
 }
 
 fn rows(d: &[DraftRow; 5]) -> Rows
     requires { ⌜ Ranged-rows (now d) ⌝ }
     ensures { λ r. ⌜ rows-values r ≡ now (d .entry) ⌝ }
 {
-    Rows { cruise: row(d[0]), initial: row(d[1]), takeoff: row(d[2]), approach: row(d[3]), landing: row(d[4]) }
+    Rows {
+        cruise: row(d[0]),
+        initial: row(d[1]),
+        takeoff: row(d[2]),
+        approach: row(d[3]),
+        landing: row(d[4]),
+    }
 }
 
 fn descent(d: DraftDescent) -> Descent
     requires { ⌜ Ranged-descent d ⌝ }
     ensures { λ r. ⌜ descent-values r ≡ d ⌝ }
 {
-    Descent { low: d.low, high: d.high, level: d.level, approach: d.approach, landing: d.landing }
+    Descent {
+        low: d.low,
+        high: d.high,
+        level: d.level,
+        approach: d.approach,
+        landing: d.landing,
+    }
 }
 
 fn temperature(t: DraftThrust) -> Temperature
@@ -56,7 +76,10 @@ fn temperature(t: DraftThrust) -> Temperature
     ensures ctc4 { λ r. ⌜ r .ctc4 ≡ t .ctc4 ⌝ }
     ensures ctc5 { λ r. ⌜ r .ctc5 ≡ t .ctc5 ⌝ }
 {
-    Temperature { ctc4: t.ctc4, ctc5: t.ctc5 }
+    Temperature {
+        ctc4: t.ctc4,
+        ctc5: t.ctc5,
+    }
 }
 
 fn fuel(c: DraftConsumption, i: DraftIdle) -> Fuel
@@ -64,7 +87,12 @@ fn fuel(c: DraftConsumption, i: DraftIdle) -> Fuel
     ensures consumption { λ r. ⌜ consumption-values r ≡ c ⌝ }
     ensures idle { λ r. ⌜ idle-values r ≡ i ⌝ }
 {
-    Fuel { cf1: c.cf1, cf2: c.cf2, cf3: i.cf3, cf4: i.cf4 }
+    Fuel {
+        cf1: c.cf1,
+        cf2: c.cf2,
+        cf3: i.cf3,
+        cf4: i.cf4,
+    }
 }
 
 fn engine(e: EngineType, t: DraftThrust, fuel: Fuel) -> Engine
@@ -74,8 +102,18 @@ fn engine(e: EngineType, t: DraftThrust, fuel: Fuel) -> Engine
     ensures fuel { λ r. ⌜ fuel-of r ≡ fuel ⌝ }
 {
     match e {
-        EngineType::Jet => Engine::Jet(JetCoefficients { ctc1: t.ctc1, ctc2: t.ctc2, ctc3: t.ctc3 as u64, fuel }),
-        EngineType::Turboprop => Engine::Turboprop(TurbopropCoefficients { ctc1: t.ctc1, ctc2: t.ctc2, ctc3: t.ctc3, fuel }),
+        EngineType::Jet => Engine::Jet(JetCoefficients {
+            ctc1: t.ctc1,
+            ctc2: t.ctc2,
+            ctc3: t.ctc3 as u64,
+            fuel,
+        }),
+        EngineType::Turboprop => Engine::Turboprop(TurbopropCoefficients {
+            ctc1: t.ctc1,
+            ctc2: t.ctc2,
+            ctc3: t.ctc3,
+            fuel,
+        }),
     }
 }
 

@@ -31,7 +31,13 @@ pub(crate) fn first_line(text: &[u8]) -> Cut<'_>
 {
     let n = up_to(text, b'\n');
     if n == text.len() {
-        return Cut { line: text, rest: &text[n..] };
+        return Cut {
+            line: text,
+            rest: &text[n..],
+        };
     }
-    Cut { line: strip_cr(&text[0..n]), rest: &text[n + 1..] }
+    Cut {
+        line: strip_cr(&text[0..n]),
+        rest: &text[n + 1..],
+    }
 }

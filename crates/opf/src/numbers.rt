@@ -46,7 +46,12 @@ fn unsigned(t: &[u8], negative: bool) -> Option<Number>
     let value = digits(&t[1..6])?;
     let lowered = is_lowering(t[7])?;
     let exponent = digits(&t[8..])?;
-    Some(Number { negative, digits: value, lowered, exponent })
+    Some(Number {
+        negative,
+        digits: value,
+        lowered,
+        exponent,
+    })
 }
 
 // The number that a field prints, if it has the form.
@@ -66,7 +71,11 @@ fn raised(x: Number, decimals: u32) -> u32
     ensures value { λ r. ⌜ r ≡ raising decimals x ⌝ }
     ensures bound { λ r. ⌜ r ≤ 115 ⌝ }
 {
-    if x.lowered { decimals } else { decimals + x.exponent }
+    if x.lowered {
+        decimals
+    } else {
+        decimals + x.exponent
+    }
 }
 
 fn lowered(x: Number) -> u32

@@ -28,7 +28,10 @@ pub(crate) fn engine(line: &DataLine) -> Result<EngineType, Fault>
     line.at_least(4)?;
     match EngineType::named(line.field(4)) {
         Some(e) => Ok(e),
-        None => Err(Fault::Word { line: line.number, field: 4 }),
+        None => Err(Fault::Word {
+            line: line.number,
+            field: 4,
+        }),
     }
 }
 
@@ -42,7 +45,11 @@ pub(crate) fn masses(line: &DataLine) -> Result<DraftMasses, Fault>
     if minimum > reference || reference > maximum {
         return Err(Fault::MassOrder { line: line.number });
     }
-    Ok(DraftMasses { reference, minimum, maximum })
+    Ok(DraftMasses {
+        reference,
+        minimum,
+        maximum,
+    })
 }
 
 // A data line of which one number is read, at field k.
@@ -74,7 +81,13 @@ pub(crate) fn thrust(line: &DataLine, e: EngineType) -> Result<DraftThrust, Faul
     let ctc3 = ctc3(line, e)?;
     let ctc4 = line.signed_count(4, quantities::CTC4)?;
     let ctc5 = line.count(5, quantities::CTC5)?;
-    Ok(DraftThrust { ctc1, ctc2, ctc3, ctc4, ctc5 })
+    Ok(DraftThrust {
+        ctc1,
+        ctc2,
+        ctc3,
+        ctc4,
+        ctc5,
+    })
 }
 
 pub(crate) fn descent(line: &DataLine) -> Result<DraftDescent, Fault>
@@ -86,7 +99,13 @@ pub(crate) fn descent(line: &DataLine) -> Result<DraftDescent, Fault>
     let level = line.count(3, quantities::DESCENT_LEVEL)?;
     let approach = line.count(4, quantities::DESCENT_FACTOR)?;
     let landing = line.count(5, quantities::DESCENT_FACTOR)?;
-    Ok(DraftDescent { low, high, level, approach, landing })
+    Ok(DraftDescent {
+        low,
+        high,
+        level,
+        approach,
+        landing,
+    })
 }
 
 pub(crate) fn consumption(line: &DataLine) -> Result<DraftConsumption, Fault>
@@ -117,5 +136,10 @@ pub(crate) fn row(line: &DataLine, count: u32, c: Configuration) -> Result<Draft
     let stall = line.count(count - 3, quantities::STALL_SPEED)?;
     let cd0 = line.count(count - 2, quantities::parasitic_drag(c))?;
     let cd2 = line.count(count - 1, quantities::DRAG)?;
-    Ok(DraftRow { stall, cd0, cd2, given: true })
+    Ok(DraftRow {
+        stall,
+        cd0,
+        cd2,
+        given: true,
+    })
 }

@@ -24,11 +24,17 @@ fn take_row(draft: &mut Draft, line: &DataLine) -> Result<(), Fault>
         return Err(Fault::FieldCount { line: line.number });
     }
     let Some(c) = Configuration::named(line.field(2)) else {
-        return Err(Fault::Word { line: line.number, field: 2 });
+        return Err(Fault::Word {
+            line: line.number,
+            field: 2,
+        });
     };
     let i = c.row();
     if draft.rows[i].given {
-        return Err(Fault::Word { line: line.number, field: 2 });
+        return Err(Fault::Word {
+            line: line.number,
+            field: 2,
+        });
     }
     let row = reading::row(line, count as u32, c)?;
     draft.fill(c, row);

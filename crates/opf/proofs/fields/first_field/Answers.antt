@@ -14,6 +14,7 @@ pub returns : need.returns
 returns c =
     let s = c .args .s .now in
     let t = c .trimmed-text .result .now in
-    let n = c .up-to-n .result in
-    (rw (take-rest t n, sub-zero n) (one-field s t n (c .trimmed-text .ensures) (c .up-to-n .ensures .count) (c .if-n-eq0 .left)),
-    rw (take-rest t n) (field-shortens s t n (c .trimmed-text .ensures) (c .up-to-n .ensures .inside) (c .if-n-eq0 .left)))
+    let n = c .up-to-n .result in (
+      rw (take-rest t n, sub-zero n) (one-field s t n (c .trimmed-text .ensures) (c .up-to-n .ensures .count) (c .if-n-eq0 .left)),
+      rw (take-rest t n) (field-shortens s t n (c .trimmed-text .ensures) (c .up-to-n .ensures .inside) (c .if-n-eq0 .left)),
+    )

@@ -30,10 +30,10 @@ loop-rest-again c =
     let cuts = c .first-line-cut .ensures .cuts in
     let r = c .in-Continue-take .ensures tt (inv .0) (inv .1) in
     let next =
-        goes-on (lines (c .args .text .now)) (c .loop-rest .number) (inv .0) (c .first-line-cut .result .line .now) (lines (c .first-line-cut .result .rest .now))
-        (ap (lines-fault (c .loop-rest .number) (inv .0)) (sym cuts) ∙ inv .2)
-        (ap (λ (x : List (List ℕ)). inv .0 ++ data-lines x) (sym cuts) ∙ inv .3)
-        (r .0) (sym (c .if-branch .left) ∙ r .1) in
+    goes-on (lines (c .args .text .now)) (c .loop-rest .number) (inv .0) (c .first-line-cut .result .line .now) (lines (c .first-line-cut .result .rest .now))
+    (ap (lines-fault (c .loop-rest .number) (inv .0)) (sym cuts) ∙ inv .2)
+    (ap (λ (x : List (List ℕ)). inv .0 ++ data-lines x) (sym cuts) ∙ inv .3)
+    (r .0) (sym (c .if-branch .left) ∙ r .1) in
     (inv .0 ++ own-fields (c .first-line-cut .result .line .now), r .2, next .0, next .1, omega (arith, inv .4, c .first-line-cut .ensures .shorter))
 
 pub returns : need.returns

@@ -15,8 +15,9 @@ returns-then-n-text c =
     let n = c .up-to-n .result in
     let past : length s ≤ n = omega arith in
     record {
-        cuts = rw (take-rest s n, drop-all n s) (line-last s (c .pre) (sym (c .up-to-n .ensures .count) ∙ c .if-n-text .taken));
-        shorter = simp (take-rest, length-drop) (omega arith) }
+      cuts = rw (take-rest s n, drop-all n s) (line-last s (c .pre) (sym (c .up-to-n .ensures .count) ∙ c .if-n-text .taken));
+      shorter = simp (take-rest, length-drop) (omega arith);
+    }
 
 pub returns : need.returns
 returns c =

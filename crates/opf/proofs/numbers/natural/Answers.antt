@@ -22,11 +22,17 @@ returns-then-v-eq0 c =
 pub returns-then-x : need.returns-then-x
 unfolding natural-in
 returns-then-x c =
-    record { value = natural-minus (c .args .q) (c .in-Continue-v .v) _ (c .in-Continue-v .ensures tt .value) (c .if-v-eq0 .left)
-        ∙ ap (λ (m : Bool). natural-from (c .args .q) m (whole-count (c .args .q .decimals) (c .args .x))) (sym (c .if-x .taken)); bound = tt }
+    record {
+      value = natural-minus (c .args .q) (c .in-Continue-v .v) _ (c .in-Continue-v .ensures tt .value) (c .if-v-eq0 .left)
+          ∙ ap (λ (m : Bool). natural-from (c .args .q) m (whole-count (c .args .q .decimals) (c .args .x))) (sym (c .if-x .taken));
+      bound = tt;
+    }
 
 pub returns : need.returns
 unfolding natural-in
 returns c =
-    record { value = natural-plus (c .args .q) (c .in-Continue-v .v) _ (c .in-Continue-v .ensures tt .value) (c .if-v-q .left) (c .if-v-eq0 .left)
-        ∙ ap (λ (m : Bool). natural-from (c .args .q) m (whole-count (c .args .q .decimals) (c .args .x))) (sym (c .if-x .left)); bound = c .in-Continue-v .ensures tt .bound }
+    record {
+      value = natural-plus (c .args .q) (c .in-Continue-v .v) _ (c .in-Continue-v .ensures tt .value) (c .if-v-q .left) (c .if-v-eq0 .left)
+          ∙ ap (λ (m : Bool). natural-from (c .args .q) m (whole-count (c .args .q .decimals) (c .args .x))) (sym (c .if-x .left));
+      bound = c .in-Continue-v .ensures tt .bound;
+    }

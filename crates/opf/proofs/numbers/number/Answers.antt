@@ -13,8 +13,9 @@ returns-in-45 c = search (needs, take-rest (c .args .field .now) 1)
 pub returns-in-rest : need.returns-in-rest
 returns-in-rest c =
     record {
-        value =
-            c .unsigned-in-rest .ensures .value
-            ∙ no-minus (c .args .field .now)
-            (elim (c .in-rest .came) [ in-rest·by·then-field-lt1 w ↦ search (needs, empty-start) | in-rest·by·else-field-lt1·in-rest· w ↦ search needs ]);
-        bound = c .unsigned-in-rest .ensures .bound }
+      value =
+          c .unsigned-in-rest .ensures .value
+          ∙ no-minus (c .args .field .now)
+          (elim (c .in-rest .came) [ in-rest·by·then-field-lt1 w ↦ search (needs, empty-start) | in-rest·by·else-field-lt1·in-rest· w ↦ search needs ]);
+      bound = c .unsigned-in-rest .ensures .bound;
+    }

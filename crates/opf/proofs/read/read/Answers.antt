@@ -19,5 +19,6 @@ returns c =
     let p = judged-well (lines-fault 1 [] ls) (c .in-Continue-draft .draft) (draft-of (data-lines ls)) (c .in-Continue-draft .ensures tt) in
     let same = c .finished .ensures ∙ p .1 in
     record {
-        values = read-well (c .args .text .now) _ (omega arith) (p .0) same;
-        printed = all-printed (whole-text ls (p .0)) (c .finished .result) same }
+      values = read-well (c .args .text .now) _ (omega arith) (p .0) same;
+      printed = all-printed (whole-text ls (p .0)) (c .finished .result) same;
+    }
