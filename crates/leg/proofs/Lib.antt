@@ -2,3 +2,4 @@ pub mod Bounds
 mod Warming
 mod Asked
 mod Joined
+pub mod Near

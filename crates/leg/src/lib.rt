@@ -8,3 +8,7 @@ mod drag;
 mod thrust;
 mod flow;
 pub mod leg;
+pub mod nearness;
+
+#[cfg(test)]
+mod tests;
