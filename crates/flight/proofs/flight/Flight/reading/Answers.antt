@@ -1,16 +1,7 @@
 use mathlib.Core.Path.{refl}
-use Rattle.leg.specs.Nearness.{Burn-near, Burn-rises, Burn-gains}
+use Rattle.leg.proofs.Near.{burn-near, burn-rises, burn-gains}
 use Rattle.flight.proofs.Chains.{keeps-to-the-book}
 use Rattle.flight.proofs.flight.Flight.reading.Needs as need
-
-burn-near : Burn-near
-burn-near = ?h
-
-burn-rises : Burn-rises
-burn-rises = ?h
-
-burn-gains : Burn-gains
-burn-gains = ?h
 
 pub returns : need.returns
 returns g c =
