@@ -73,7 +73,7 @@ pub(crate) fn flown<K: Kind, D: Day>(aircraft: &Aircraft, kind: &K, day: &D, sta
 }
 
 // Grams put in or thrown out, in mg.
-fn some(grams: u64) -> Result<u64, Refusal>
+fn weighed(grams: u64) -> Result<u64, Refusal>
     ensures { λ r. ⌜ r ≡ cond (some-grams grams) (Ok (in-mg grams)) (Err Grams) ⌝ }
 {
     if grams < 1 || grams > 1000000000 {
@@ -85,7 +85,7 @@ fn some(grams: u64) -> Result<u64, Refusal>
 pub(crate) fn uplifted(aircraft: &Aircraft, status: Status, grams: u64) -> Result<Status, Refusal>
     ensures { λ r. ⌜ status-done r ≡ uplift-outcome (now (aircraft .entry)) (account-of status) grams ⌝ }
 {
-    let fuel = some(grams)?;
+    let fuel = weighed(grams)?;
     let state = next(status.state, Call::Uplift)?;
     if status.zero_fuel + status.fuel + fuel > aircraft.masses.maximum * 1000 {
         return Err(Refusal::Overweight);
@@ -96,7 +96,7 @@ pub(crate) fn uplifted(aircraft: &Aircraft, status: Status, grams: u64) -> Resul
 pub(crate) fn jettisoned(status: Status, grams: u64) -> Result<Status, Refusal>
     ensures { λ r. ⌜ status-done r ≡ jettison-outcome (account-of status) grams ⌝ }
 {
-    let fuel = some(grams)?;
+    let fuel = weighed(grams)?;
     let state = next(status.state, Call::Jettison)?;
     if fuel > status.fuel {
         return Err(Refusal::FuelShort);
