@@ -6,3 +6,6 @@ pub mod reading;
 mod states;
 mod status;
 mod steps;
+
+#[cfg(test)]
+mod tests;

@@ -85,23 +85,23 @@ fn weighed(grams: u64) -> Result<u64, Refusal>
 pub(crate) fn uplifted(aircraft: &Aircraft, status: Status, grams: u64) -> Result<Status, Refusal>
     ensures { λ r. ⌜ status-done r ≡ uplift-outcome (now (aircraft .entry)) (account-of status) grams ⌝ }
 {
-    let fuel = weighed(grams)?;
+    let added = weighed(grams)?;
     let state = next(status.state, Call::Uplift)?;
-    if status.zero_fuel + status.fuel + fuel > aircraft.masses.maximum * 1000 {
+    if status.zero_fuel + status.fuel + added > aircraft.masses.maximum * 1000 {
         return Err(Refusal::Overweight);
     }
-    Ok(Status { state, zero_fuel: status.zero_fuel, fuel: status.fuel + fuel, reserve: status.reserve, seconds: status.seconds })
+    Ok(Status { state, zero_fuel: status.zero_fuel, fuel: status.fuel + added, reserve: status.reserve, seconds: status.seconds })
 }
 
 pub(crate) fn jettisoned(status: Status, grams: u64) -> Result<Status, Refusal>
     ensures { λ r. ⌜ status-done r ≡ jettison-outcome (account-of status) grams ⌝ }
 {
-    let fuel = weighed(grams)?;
+    let thrown = weighed(grams)?;
     let state = next(status.state, Call::Jettison)?;
-    if fuel > status.fuel {
+    if thrown > status.fuel {
         return Err(Refusal::FuelShort);
     }
-    Ok(Status { state, zero_fuel: status.zero_fuel, fuel: status.fuel - fuel, reserve: status.reserve, seconds: status.seconds })
+    Ok(Status { state, zero_fuel: status.zero_fuel, fuel: status.fuel - thrown, reserve: status.reserve, seconds: status.seconds })
 }
 
 pub(crate) fn landed(status: Status) -> Result<Status, Refusal>
