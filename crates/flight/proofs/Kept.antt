@@ -66,16 +66,16 @@ module _ (w : Setting) (l : Account) where
       let o : Ok e ≡ Ok d = p1 .1 in
       let is : e ≡ d = cc in
       let facts : Leg-accepted w l n x e =
-        record {
-          phase = p;
-          next = next;
-          numbered = numbered;
-          range = range;
-          short = short;
-          flew = lifted (w .aircraft) (w .engine) (w .air) p x (mass-of l) a flew;
-          enough = leb-true (a .burn) (l .fuel) (p1 .0);
-          left = refl;
-        } in
+      record {
+        phase = p;
+        next = next;
+        numbered = numbered;
+        range = range;
+        short = short;
+        flew = lifted (w .aircraft) (w .engine) (w .air) p x (mass-of l) a flew;
+        enough = leb-true (a .burn) (l .fuel) (p1 .0);
+        left = refl;
+      } in
       subst (Leg-accepted w l n x) is facts
 
   leg-taken-ok : (p : Phase) (next : State) (x : Figures) (d : Done Flown) (n : ℕ) → phase-numbered n ≡ Ok p → In-range x → leg-taken w l p next x ≡ Ok d → Leg-accepted w l n x d
@@ -130,16 +130,16 @@ begun-in-step rate w s l q =
     let o : Ok first ≡ Ok l = p3 .1 in
     let is : first ≡ l = cc in
     let start : In-step rate w s [] first =
-      record {
-        close = near-same (≈-refl _) (nat-≥0 0);
-        slow = omega arith;
-        short = omega arith;
-        light = omega (arith, leb-true (w .aircraft .masses .minimum) (s .zero-fuel) (p2 .0), w .aircraft .masses .light);
-        heavy = omega (arith, leb-true (starting-mass s) (in-mg (w .aircraft .masses .maximum)) (p3 .0), w .aircraft .masses .heavy);
-        empty = refl;
-        reserved = refl;
-        balance = omega arith;
-      } in
+    record {
+      close = near-same (≈-refl _) (nat-≥0 0);
+      slow = omega arith;
+      short = omega arith;
+      light = omega (arith, leb-true (w .aircraft .masses .minimum) (s .zero-fuel) (p2 .0), w .aircraft .masses .light);
+      heavy = omega (arith, leb-true (starting-mass s) (in-mg (w .aircraft .masses .maximum)) (p3 .0), w .aircraft .masses .heavy);
+      empty = refl;
+      reserved = refl;
+      balance = omega arith;
+    } in
     subst (In-step rate w s []) is start
 
 -- The chain, at any rate that covers the error of a leg and is at most 100 mg a second.
@@ -154,22 +154,22 @@ module _ (near : Burn-near) (rises : Burn-rises) (gains : Burn-gains) (rate : Ph
       let m = mass-of l in
       let β : ℚ → ℚ = λ y. exact-burn a (w .engine) (w .air) p c x y in
       let ok : Accepted a (w .engine) (w .air) p c x m =
-        record { figures = f .range; light = omega (arith, before .light); heavy = before .heavy; lift = f .flew .lift; flow = f .flew .flow } in
+      record { figures = f .range; light = omega (arith, before .light); heavy = before .heavy; lift = f .flew .lift; flow = f .flew .flow } in
       let bounds = bounded-drag a c in
       let own : Near (nat (flown-with a (w .engine) (w .air) p c pair x m .burn)) (β (nat m)) (nat (leg-rate p * x .seconds)) =
-        near a (w .engine) (w .air) p c pair x m kind day bounds ok in
+      near a (w .engine) (w .air) p c pair x m kind day bounds ok in
       let Burn : Flown → Type 0 = λ y. Near (nat (y .burn)) (β (nat m)) (nat (leg-rate p * x .seconds)) in
       let burns : Near (nat (d .answer .burn)) (β (nat m)) (nat (rate p * x .seconds)) =
-        near-weaken (subst Burn (sym (f .flew .answer)) own) (nat-≤ (mul-le-mul-right (x .seconds) (covers p))) in
+      near-weaken (subst Burn (sym (f .flew .answer)) own) (nat-≤ (mul-le-mul-right (x .seconds) (covers p))) in
       let after =
-        step.after-leg β m (d .answer .burn) (allowed rate (map told es)) (rate p * x .seconds) (book-mass w s (map told es))
-        (rises a (w .engine) (w .air) p c pair x m kind day bounds ok)
-        (gains a (w .engine) (w .air) p c pair x m kind day bounds ok)
-        (omega (arith, before .slow, before .short))
-        (omega (arith, before .light))
-        (omega (arith, f .enough))
-        (before .close)
-        burns in
+      step.after-leg β m (d .answer .burn) (allowed rate (map told es)) (rate p * x .seconds) (book-mass w s (map told es))
+      (rises a (w .engine) (w .air) p c pair x m kind day bounds ok)
+      (gains a (w .engine) (w .air) p c pair x m kind day bounds ok)
+      (omega (arith, before .slow, before .short))
+      (omega (arith, before .light))
+      (omega (arith, f .enough))
+      (before .close)
+      burns in
       let Close : Result Phase Refusal → Type 0 = λ r. Near (nat (m - d .answer .burn)) (book-mass w s (map told es) -ℚ by-phase r (nat 0) (λ q. exact-burn a (w .engine) (w .air) q (configuration-of a q x) x (book-mass w s (map told es)))) (nat (by-phase r 0 (λ q. rate q * x .seconds) + allowed rate (map told es))) in
       subst Close (sym (f .numbered)) after
 
@@ -178,16 +178,16 @@ module _ (near : Burn-near) (rises : Burn-rises) (gains : Burn-gains) (rate : Ph
       let f = leg-ok w l n x d q in
       let seconds : allowance rate (Leg n x) ≡ rate (f .phase) * x .seconds = ap (λ (r : Result Phase Refusal). by-phase r 0 (λ p. rate p * x .seconds)) (f .numbered) in
       let after : In-step rate w s (made-of (Leg n x) (Ok (d .answer)) es) (changed l (f .next) (l .fuel - d .answer .burn) (l .seconds + x .seconds)) =
-        record {
-          close = moved (omega (arith, f .enough)) (omega arith) (close-leg n x d f);
-          slow = omega (arith, seconds, mul-le-mul-right (x .seconds) (modest (f .phase)), before .slow);
-          short = f .short;
-          light = before .light;
-          heavy = omega (arith, before .heavy);
-          empty = before .empty;
-          reserved = before .reserved;
-          balance = omega (arith, before .balance, f .enough);
-        } in
+      record {
+        close = moved (omega (arith, f .enough)) (omega arith) (close-leg n x d f);
+        slow = omega (arith, seconds, mul-le-mul-right (x .seconds) (modest (f .phase)), before .slow);
+        short = f .short;
+        light = before .light;
+        heavy = omega (arith, before .heavy);
+        empty = before .empty;
+        reserved = before .reserved;
+        balance = omega (arith, before .balance, f .enough);
+      } in
       subst (In-step rate w s (made-of (Leg n x) (Ok (d .answer)) es)) (sym (f .left)) after
 
   -- a call that leaves a flight with other fuel in another state, and no answer
@@ -215,11 +215,11 @@ module _ (near : Burn-near) (rises : Burn-rises) (gains : Burn-gains) (rate : Ph
       let p3 = unless-ok refusal.Overweight (leb (mass-of l + in-mg g) (in-mg m)) (silent (left (p2 .0))) d (p2 .2) in
       let below = leb-true (mass-of l + in-mg g) (in-mg m) (p3 .0) in
       let after =
-        with-fuel (Uplift g) tt (p2 .0) (l .fuel + in-mg g)
-        (moved (omega arith) (omega arith) (step.after-uplift (mass-of l) (in-mg g) (allowed rate (map told es)) (book-mass w s (map told es)) (before .close)))
-        (omega arith)
-        (omega (arith, below, w .aircraft .masses .heavy))
-        (omega (arith, before .balance)) in
+      with-fuel (Uplift g) tt (p2 .0) (l .fuel + in-mg g)
+      (moved (omega arith) (omega arith) (step.after-uplift (mass-of l) (in-mg g) (allowed rate (map told es)) (book-mass w s (map told es)) (before .close)))
+      (omega arith)
+      (omega (arith, below, w .aircraft .masses .heavy))
+      (omega (arith, before .balance)) in
       silent-left (λ e. In-step rate w s (made-of (Uplift g) (Ok (e .answer)) es) (e .left)) (left (p2 .0)) d (p3 .1) after
 
   accepted-jettison : (g : ℕ) (d : Done (Unit {0})) → outcome w l (Jettison g) ≡ Ok d → In-step rate w s (made-of (Jettison g) (Ok (d .answer)) es) (d .left)
@@ -231,11 +231,11 @@ module _ (near : Burn-near) (rises : Burn-rises) (gains : Burn-gains) (rate : Ph
       let p3 = unless-ok refusal.FuelShort (leb (in-mg g) (l .fuel)) (silent (left (p2 .0))) d (p2 .2) in
       let enough = leb-true (in-mg g) (l .fuel) (p3 .0) in
       let after =
-        with-fuel (Jettison g) tt (p2 .0) (l .fuel - in-mg g)
-        (moved (omega (arith, enough)) (omega arith) (step.after-jettison (mass-of l) (in-mg g) (allowed rate (map told es)) (book-mass w s (map told es)) (omega (arith, enough)) (before .close)))
-        (omega arith)
-        (omega (arith, before .heavy))
-        (omega (arith, before .balance, enough)) in
+      with-fuel (Jettison g) tt (p2 .0) (l .fuel - in-mg g)
+      (moved (omega (arith, enough)) (omega arith) (step.after-jettison (mass-of l) (in-mg g) (allowed rate (map told es)) (book-mass w s (map told es)) (omega (arith, enough)) (before .close)))
+      (omega arith)
+      (omega (arith, before .heavy))
+      (omega (arith, before .balance, enough)) in
       silent-left (λ e. In-step rate w s (made-of (Jettison g) (Ok (e .answer)) es) (e .left)) (left (p2 .0)) d (p3 .1) after
 
   accepted-touchdown : (d : Done (Unit {0})) → outcome w l Touchdown ≡ Ok d → In-step rate w s (made-of Touchdown (Ok (d .answer)) es) (d .left)

@@ -20,12 +20,27 @@ pub struct Hop {
 }
 
 // An uplift, a climb and a touchdown. Masses in grams.
-pub fn fly_hop<K: Kind + Copy, D: Day + Copy>(aircraft: Aircraft, kind: K, day: D, zero_fuel: u64, uplift: u64, altitude: u64, speed: u64, calibrated: u64, seconds: u64) -> Result<Hop, Refusal>
+pub fn fly_hop<K: Kind + Copy, D: Day + Copy>(
+    aircraft: Aircraft,
+    kind: K,
+    day: D,
+    zero_fuel: u64,
+    uplift: u64,
+    altitude: u64,
+    speed: u64,
+    calibrated: u64,
+    seconds: u64,
+) -> Result<Hop, Refusal>
     ensures { λ r. ⌜ made r (Hop-claims (setting (K·Kind .engine) (D·Day .air) aircraft kind day) «zero_fuel» uplift (record { altitude = altitude; speed = speed; calibrated = calibrated; seconds = seconds })) ⌝ }
 {
     let mut flight = Flight::start(aircraft, kind, day, zero_fuel, 0, None)?;
     let uplifted = flight.uplift(uplift);
     let flown = flight.leg(1, altitude, speed, calibrated, seconds);
     let landed = flight.touchdown();
-    Ok(Hop { uplifted, flown, landed, reading: flight.reading() })
+    Ok(Hop {
+        uplifted,
+        flown,
+        landed,
+        reading: flight.reading(),
+    })
 }

@@ -6,6 +6,5 @@ pub mod reading;
 mod states;
 mod status;
 mod steps;
-
 #[cfg(test)]
 mod tests;

@@ -22,6 +22,7 @@ pub(crate) fn next(state: State, call: Call) -> Result<State, Refusal>
         (State::Stand, Call::Uplift) => Ok(State::Stand),
         (State::Airborne, Call::Leg(_)) | (State::Airborne, Call::Jettison) => Ok(State::Airborne),
         (State::Airborne, Call::Touchdown) => Ok(State::Stand),
-        (State::Stand, Call::Leg(_) | Call::Jettison | Call::Touchdown) | (State::Airborne, Call::Uplift) => Err(Refusal::State),
+        (State::Stand, Call::Leg(_) | Call::Jettison | Call::Touchdown)
+        | (State::Airborne, Call::Uplift) => Err(Refusal::State),
     }
 }

@@ -6,7 +6,7 @@ ghost use Rattle.std.specs.declared.result.Result.the-variants.{Ok, Err};
 ghost use Rattle.refusal.specs.declared.refusal.Refusal.the-variants.{Grams};
 ghost use Rattle.leg.specs.Requests.{figures-of};
 ghost use Rattle.flight.specs.Calls.{in-mg, reserve-or-default};
-ghost use Rattle.flight.specs.Accounts.{account-of, mass-of, start-outcome, leg-taken, leg-fuelled, uplift-outcome, jettison-outcome, touchdown-outcome, some-grams, status-begun, status-done, step-done};
+ghost use Rattle.flight.specs.Accounts.{account-of, changed, start-outcome, leg-taken, leg-fuelled, uplift-outcome, jettison-outcome, touchdown-outcome, some-grams, status-begun, status-done, step-done};
 use crate::states::Call;
 use crate::states::next;
 use crate::status::State;
@@ -22,6 +22,23 @@ use leg::phase::Phase;
 use leg::request::Request;
 use refusal::refusal::Refusal;
 
+impl Status {
+    // Another state, fuel and seconds; zero-fuel mass and reserve stay.
+    fn with(self, state: State, fuel: u64, seconds: u64) -> Status
+        requires heavy { ⌜ self .«zero_fuel» + fuel ≤ 900000000000 ⌝ }
+        requires flown { ⌜ seconds ≤ 1000000 ⌝ }
+        ensures { λ r. ⌜ account-of r ≡ changed (account-of self) state fuel seconds ⌝ }
+    {
+        Status {
+            state,
+            zero_fuel: self.zero_fuel,
+            fuel,
+            reserve: self.reserve,
+            seconds,
+        }
+    }
+}
+
 // An absent reserve counts as none, in grams.
 fn reserved(reserve: Option<u64>) -> u64
     ensures { λ r. ⌜ r ≡ reserve-or-default reserve ⌝ }
@@ -32,7 +49,12 @@ fn reserved(reserve: Option<u64>) -> u64
     }
 }
 
-pub(crate) fn begin(aircraft: &Aircraft, zero_fuel: u64, fuel: u64, reserve: Option<u64>) -> Result<Status, Refusal>
+pub(crate) fn begin(
+    aircraft: &Aircraft,
+    zero_fuel: u64,
+    fuel: u64,
+    reserve: Option<u64>,
+) -> Result<Status, Refusal>
     ensures { λ r. ⌜ status-begun r ≡ start-outcome (now (aircraft .entry)) (record { zero-fuel = «zero_fuel»; fuel = fuel; reserve = reserve }) ⌝ }
 {
     let reserve = reserved(reserve);
@@ -45,7 +67,13 @@ pub(crate) fn begin(aircraft: &Aircraft, zero_fuel: u64, fuel: u64, reserve: Opt
     if zero_fuel * 1000 + fuel * 1000 > aircraft.masses.maximum * 1000 {
         return Err(Refusal::Overweight);
     }
-    Ok(Status { state: State::Stand, zero_fuel: zero_fuel * 1000, fuel: fuel * 1000, reserve: reserve * 1000, seconds: 0 })
+    Ok(Status {
+        state: State::Stand,
+        zero_fuel: zero_fuel * 1000,
+        fuel: fuel * 1000,
+        reserve: reserve * 1000,
+        seconds: 0,
+    })
 }
 
 // The status that a leg leaves where there is fuel for it.
@@ -56,19 +84,27 @@ fn fuelled(status: Status, state: State, seconds: u64, flown: Flown) -> Result<S
     if flown.burn > status.fuel {
         return Err(Refusal::FuelShort);
     }
-    let left = Status { state, zero_fuel: status.zero_fuel, fuel: status.fuel - flown.burn, reserve: status.reserve, seconds: status.seconds + seconds };
+    let left = status.with(state, status.fuel - flown.burn, status.seconds + seconds);
     Ok(Step { flown, left })
 }
 
 // A leg that the state takes.
-pub(crate) fn flown<K: Kind, D: Day>(aircraft: &Aircraft, kind: &K, day: &D, status: Status, phase: Phase, state: State, request: &Request) -> Result<Step, Refusal>
+pub(crate) fn flown<K: Kind, D: Day>(
+    aircraft: &Aircraft,
+    kind: &K,
+    day: &D,
+    status: Status,
+    phase: Phase,
+    state: State,
+    request: &Request,
+) -> Result<Step, Refusal>
     ensures { λ r. ⌜ step-done r ≡ leg-taken (record { aircraft = now (aircraft .entry); engine = K·Kind .engine (now (kind .entry)); air = D·Day .air (now (day .entry)) }) (account-of status) phase state (figures-of (now (request .entry))) ⌝ }
 {
     if status.seconds + request.seconds > 1000000 {
         return Err(Refusal::FlownSeconds);
     }
-    let mass = Mass { milligrams: status.zero_fuel + status.fuel };
-    let flown = fly(aircraft, kind, day, phase, request, mass)?;
+    let milligrams = status.zero_fuel + status.fuel;
+    let flown = fly(aircraft, kind, day, phase, request, Mass { milligrams })?;
     fuelled(status, state, request.seconds, flown)
 }
 
@@ -90,7 +126,7 @@ pub(crate) fn uplifted(aircraft: &Aircraft, status: Status, grams: u64) -> Resul
     if status.zero_fuel + status.fuel + added > aircraft.masses.maximum * 1000 {
         return Err(Refusal::Overweight);
     }
-    Ok(Status { state, zero_fuel: status.zero_fuel, fuel: status.fuel + added, reserve: status.reserve, seconds: status.seconds })
+    Ok(status.with(state, status.fuel + added, status.seconds))
 }
 
 pub(crate) fn jettisoned(status: Status, grams: u64) -> Result<Status, Refusal>
@@ -101,12 +137,12 @@ pub(crate) fn jettisoned(status: Status, grams: u64) -> Result<Status, Refusal>
     if thrown > status.fuel {
         return Err(Refusal::FuelShort);
     }
-    Ok(Status { state, zero_fuel: status.zero_fuel, fuel: status.fuel - thrown, reserve: status.reserve, seconds: status.seconds })
+    Ok(status.with(state, status.fuel - thrown, status.seconds))
 }
 
 pub(crate) fn landed(status: Status) -> Result<Status, Refusal>
     ensures { λ r. ⌜ status-done r ≡ touchdown-outcome (account-of status) ⌝ }
 {
     let state = next(status.state, Call::Touchdown)?;
-    Ok(Status { state, zero_fuel: status.zero_fuel, fuel: status.fuel, reserve: status.reserve, seconds: status.seconds })
+    Ok(status.with(state, status.fuel, status.seconds))
 }

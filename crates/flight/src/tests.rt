@@ -30,37 +30,99 @@ fn sample_jet() -> JetCoefficients {
         ctc1: 150000000,
         ctc2: 50000,
         ctc3: 1000000,
-        fuel: Fuel { cf1: 70000000, cf2: 100000, cf3: 12000000, cf4: 100000 },
+        fuel: Fuel {
+            cf1: 70000000,
+            cf2: 100000,
+            cf3: 12000000,
+            cf4: 100000,
+        },
     }
 }
 
 fn sample() -> Aircraft {
     Aircraft {
         engine: Engine::Jet(sample_jet()),
-        masses: Masses { reference: 60000000, minimum: 40000000, maximum: 80000000 },
+        masses: Masses {
+            reference: 60000000,
+            minimum: 40000000,
+            maximum: 80000000,
+        },
         ceiling: 40000,
         wing: 100000,
         rows: Rows {
-            cruise: Row { stall: 140000, cd0: 2000000, cd2: 4000000 },
-            initial: Row { stall: 117000, cd0: 3305700, cd2: 4536200 },
-            takeoff: Row { stall: 117000, cd0: 3305700, cd2: 4536200 },
-            approach: Row { stall: 115000, cd0: 3803100, cd2: 4493200 },
-            landing: Row { stall: 97000, cd0: 7893500, cd2: 4482200 },
+            cruise: Row {
+                stall: 140000,
+                cd0: 2000000,
+                cd2: 4000000,
+            },
+            initial: Row {
+                stall: 117000,
+                cd0: 3305700,
+                cd2: 4536200,
+            },
+            takeoff: Row {
+                stall: 117000,
+                cd0: 3305700,
+                cd2: 4536200,
+            },
+            approach: Row {
+                stall: 115000,
+                cd0: 3803100,
+                cd2: 4493200,
+            },
+            landing: Row {
+                stall: 97000,
+                cd0: 7893500,
+                cd2: 4482200,
+            },
         },
         gear: 2250000,
-        temperature: Temperature { ctc4: 100000, ctc5: 500000 },
-        descent: Descent { low: 730000, high: 2060000, level: 8000, approach: 12000000, landing: 36000000 },
+        temperature: Temperature {
+            ctc4: 100000,
+            ctc5: 500000,
+        },
+        descent: Descent {
+            low: 730000,
+            high: 2060000,
+            level: 8000,
+            approach: 12000000,
+            landing: 36000000,
+        },
         cruise: 100000,
     }
 }
 
 // A jet that sips 10 g a minute at idle, and one whose nominal flow is refused at every speed.
 fn sipping() -> Jet {
-    Jet { coefficients: JetCoefficients { ctc1: 100000, ctc2: 50000, ctc3: 0, fuel: Fuel { cf1: 1000000, cf2: 100000, cf3: 10000, cf4: 99999000 } } }
+    Jet {
+        coefficients: JetCoefficients {
+            ctc1: 100000,
+            ctc2: 50000,
+            ctc3: 0,
+            fuel: Fuel {
+                cf1: 1000000,
+                cf2: 100000,
+                cf3: 10000,
+                cf4: 99999000,
+            },
+        },
+    }
 }
 
 fn thirsty() -> Jet {
-    Jet { coefficients: JetCoefficients { ctc1: 150000000, ctc2: 50000, ctc3: 1000000, fuel: Fuel { cf1: 1000000000, cf2: 100000, cf3: 12000000, cf4: 100000 } } }
+    Jet {
+        coefficients: JetCoefficients {
+            ctc1: 150000000,
+            ctc2: 50000,
+            ctc3: 1000000,
+            fuel: Fuel {
+                cf1: 1000000000,
+                cf2: 100000,
+                cf3: 12000000,
+                cf4: 100000,
+            },
+        },
+    }
 }
 
 fn with_kind(kind: Jet, fuel: u64) -> Result<Flight<Jet, Bench>, Refusal> {
@@ -68,7 +130,12 @@ fn with_kind(kind: Jet, fuel: u64) -> Result<Flight<Jet, Bench>, Refusal> {
 }
 
 fn on_stand() -> Result<Flight<Jet, Bench>, Refusal> {
-    with_kind(Jet { coefficients: sample_jet() }, 10000000)
+    with_kind(
+        Jet {
+            coefficients: sample_jet(),
+        },
+        10000000,
+    )
 }
 
 fn in_the_air() -> Result<Flight<Jet, Bench>, Refusal> {
@@ -86,37 +153,118 @@ fn number<T: Drop>(answer: Result<T, Refusal>) -> u8 {
 }
 
 fn starting(zero_fuel: u64, fuel: u64, reserve: Option<u64>) -> Result<u8, Refusal> {
-    Ok(number(Flight::start(sample(), sipping(), Bench::new(45000, 0)?, zero_fuel, fuel, reserve)))
+    Ok(number(Flight::start(
+        sample(),
+        sipping(),
+        Bench::new(45000, 0)?,
+        zero_fuel,
+        fuel,
+        reserve,
+    )))
 }
 
 // Whether the mark is up at the start, with 10 t of fuel.
 fn marked(reserve: Option<u64>) -> Result<bool, Refusal> {
-    let flight = Flight::start(sample(), sipping(), Bench::new(45000, 0)?, 50000000, 10000000, reserve)?;
+    let flight = Flight::start(
+        sample(),
+        sipping(),
+        Bench::new(45000, 0)?,
+        50000000,
+        10000000,
+        reserve,
+    )?;
     Ok(flight.reading().minimum)
 }
 
 #[test]
 fn sample_legs() -> Result<(), Fail> {
     let mut flight = on_stand()?;
-    check_eq(flight.reading(), Reading { mass: 60000000000, fuel: 10000000000, minimum: false })?;
+    check_eq(
+        flight.reading(),
+        Reading {
+            mass: 60000000000,
+            fuel: 10000000000,
+            minimum: false,
+        },
+    )?;
     let climb = flight.leg(1, 30000, 4500, 280, 60)?;
-    check_eq(climb, Flown { configuration: Configuration::Cruise, thrust: 73500000, drag: 35601203, flow: 74602500, burn: 74602500, limited: false })?;
-    check_eq(flight.reading(), Reading { mass: 59925397500, fuel: 9925397500, minimum: false })?;
+    check_eq(
+        climb,
+        Flown {
+            configuration: Configuration::Cruise,
+            thrust: 73500000,
+            drag: 35601203,
+            flow: 74602500,
+            burn: 74602500,
+            limited: false,
+        },
+    )?;
+    check_eq(
+        flight.reading(),
+        Reading {
+            mass: 59925397500,
+            fuel: 9925397500,
+            minimum: false,
+        },
+    )?;
     let cruise = flight.leg(2, 30000, 4500, 280, 60)?;
-    check_eq(cruise, Flown { configuration: Configuration::Cruise, thrust: 35572661, drag: 35572661, flow: 36106250, burn: 36106250, limited: false })?;
-    check_eq(flight.reading(), Reading { mass: 59889291250, fuel: 9889291250, minimum: false })?;
+    check_eq(
+        cruise,
+        Flown {
+            configuration: Configuration::Cruise,
+            thrust: 35572661,
+            drag: 35572661,
+            flow: 36106250,
+            burn: 36106250,
+            limited: false,
+        },
+    )?;
+    check_eq(
+        flight.reading(),
+        Reading {
+            mass: 59889291250,
+            fuel: 9889291250,
+            minimum: false,
+        },
+    )?;
     check_eq(number(flight.leg(2, 30000, 4500, 280, 61)), 20)?;
     flight.jettison(100000)?;
-    check_eq(flight.reading(), Reading { mass: 59789291250, fuel: 9789291250, minimum: false })
+    check_eq(
+        flight.reading(),
+        Reading {
+            mass: 59789291250,
+            fuel: 9789291250,
+            minimum: false,
+        },
+    )
 }
 
 #[test]
 fn sample_hop() -> Result<(), Fail> {
-    let hop = fly_hop(sample(), Jet { coefficients: sample_jet() }, Bench::new(45000, 0)?, 50000000, 10000000, 30000, 4500, 280, 60)?;
+    let hop = fly_hop(
+        sample(),
+        Jet {
+            coefficients: sample_jet(),
+        },
+        Bench::new(45000, 0)?,
+        50000000,
+        10000000,
+        30000,
+        4500,
+        280,
+        60,
+    )?;
     check_eq(number(hop.uplifted), 0)?;
     check_eq(number(hop.flown), 0)?;
     check_eq(number(hop.landed), 0)?;
-    check_eq(hop.reading, Reading { mass: 59925397500, fuel: 9925397500, minimum: false })
+    check_eq(
+        hop.reading,
+        Reading {
+            mass: 59925397500,
+            fuel: 9925397500,
+            minimum: false,
+        },
+    )
 }
 
 #[test]
@@ -126,9 +274,23 @@ fn calls_on_stand() -> Result<(), Fail> {
     check_eq(number(flight.leg(3, 30000, 4500, 280, 60)), 16)?;
     check_eq(number(flight.jettison(1)), 16)?;
     check_eq(number(flight.touchdown()), 16)?;
-    check_eq(flight.reading(), Reading { mass: 60000000000, fuel: 10000000000, minimum: false })?;
+    check_eq(
+        flight.reading(),
+        Reading {
+            mass: 60000000000,
+            fuel: 10000000000,
+            minimum: false,
+        },
+    )?;
     check_eq(number(flight.uplift(1)), 0)?;
-    check_eq(flight.reading(), Reading { mass: 60000001000, fuel: 10000001000, minimum: false })?;
+    check_eq(
+        flight.reading(),
+        Reading {
+            mass: 60000001000,
+            fuel: 10000001000,
+            minimum: false,
+        },
+    )?;
     check_eq(number(flight.leg(1, 30000, 4500, 280, 60)), 0)?;
     check_eq(number(flight.leg(2, 30000, 4500, 280, 60)), 0)
 }
@@ -137,7 +299,14 @@ fn calls_on_stand() -> Result<(), Fail> {
 fn calls_in_the_air() -> Result<(), Fail> {
     let mut flight = in_the_air()?;
     check_eq(number(flight.uplift(1)), 16)?;
-    check_eq(flight.reading(), Reading { mass: 59925397500, fuel: 9925397500, minimum: false })?;
+    check_eq(
+        flight.reading(),
+        Reading {
+            mass: 59925397500,
+            fuel: 9925397500,
+            minimum: false,
+        },
+    )?;
     check_eq(number(flight.leg(1, 30000, 4500, 280, 60)), 0)?;
     check_eq(number(flight.leg(2, 30000, 4500, 280, 60)), 0)?;
     check_eq(number(flight.leg(3, 30000, 4500, 280, 60)), 0)?;
@@ -185,7 +354,14 @@ fn refused_jettisons() -> Result<(), Fail> {
     check_eq(number(airborne.jettison(1000000001)), 13)?;
     check_eq(number(airborne.jettison(9925398)), 25)?;
     check_eq(number(airborne.jettison(9925397)), 0)?;
-    check_eq(airborne.reading(), Reading { mass: 50000000500, fuel: 500, minimum: false })
+    check_eq(
+        airborne.reading(),
+        Reading {
+            mass: 50000000500,
+            fuel: 500,
+            minimum: false,
+        },
+    )
 }
 
 #[test]
@@ -201,7 +377,12 @@ fn refused_legs() -> Result<(), Fail> {
     let mut refusing = with_kind(thirsty(), 1)?;
     check_eq(number(refusing.leg(1, 30000, 300, 280, 60)), 22)?;
     check_eq(number(refusing.leg(1, 30000, 4500, 280, 60)), 23)?;
-    let mut short = with_kind(Jet { coefficients: sample_jet() }, 1)?;
+    let mut short = with_kind(
+        Jet {
+            coefficients: sample_jet(),
+        },
+        1,
+    )?;
     check_eq(number(short.leg(1, 30000, 4500, 280, 60)), 25)?;
     check_eq(number(short.leg(2, 30000, 4500, 280, 60)), 16)
 }
