@@ -1,4 +1,5 @@
 pub mod Bounds
+pub mod Answered
 mod Warming
 mod Asked
 mod Joined

@@ -44,18 +44,18 @@ Of-every-leg claim =
 abbrev pub Burn-near : Type 0
 Burn-near =
     Of-every-leg (λ a k air p c pair f mass.
-      Near (nat (flown-with a k air p c pair f mass .burn)) (exact-burn-with a k air p c pair f (nat mass)) (nat (leg-rate p * f .seconds)))
+    Near (nat (flown-with a k air p c pair f mass .burn)) (exact-burn-with a k air p c pair f (nat mass)) (nat (leg-rate p * f .seconds)))
 
 -- the exact burn does not fall as the mass grows, up to 100 kg above the leg's mass
 abbrev pub Burn-rises : Type 0
 Burn-rises =
     Of-every-leg (λ a k air p c pair f mass.
-      (x x′ : ℚ) → nat 0 ≤ℚ x → x ≤ℚ x′ → x′ ≤ℚ nat (mass + 10 ^ 8) →
-      exact-burn-with a k air p c pair f x ≤ℚ exact-burn-with a k air p c pair f x′)
+    (x x′ : ℚ) → nat 0 ≤ℚ x → x ≤ℚ x′ → x′ ≤ℚ nat (mass + 10 ^ 8) →
+    exact-burn-with a k air p c pair f x ≤ℚ exact-burn-with a k air p c pair f x′)
 
 -- and gains no more than the mass does
 abbrev pub Burn-gains : Type 0
 Burn-gains =
     Of-every-leg (λ a k air p c pair f mass.
-      (x x′ : ℚ) → nat 0 ≤ℚ x → x ≤ℚ x′ → x′ ≤ℚ nat (mass + 10 ^ 8) →
-      exact-burn-with a k air p c pair f x′ -ℚ exact-burn-with a k air p c pair f x ≤ℚ x′ -ℚ x)
+    (x x′ : ℚ) → nat 0 ≤ℚ x → x ≤ℚ x′ → x′ ≤ℚ nat (mass + 10 ^ 8) →
+    exact-burn-with a k air p c pair f x′ -ℚ exact-burn-with a k air p c pair f x ≤ℚ x′ -ℚ x)

@@ -78,10 +78,14 @@ limited Climb d n = false
 limited Cruise d n = ltb (cruise-cap n) d
 limited Descent d n = false
 
--- in mg/min, where `factor` is the cruise factor in 10⁻⁵
+-- a nominal flow by the cruise factor in 10⁻⁵
+abbrev pub cruise-flow : (nominal factor : ℕ) → ℕ
+cruise-flow nominal factor = nominal * factor / 10 ^ 5
+
+-- in mg/min, where `factor` is the cruise factor
 abbrev pub flow-used : Phase → Configuration → (factor nominal idle : ℕ) → ℕ
 flow-used Climb c factor nominal idle = nominal
-flow-used Cruise c factor nominal idle = nominal * factor / 10 ^ 5
+flow-used Cruise c factor nominal idle = cruise-flow nominal factor
 flow-used Descent c factor nominal idle = cond (needs-nominal Descent c) (max nominal idle) idle
 
 -- in mg

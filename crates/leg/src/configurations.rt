@@ -61,7 +61,10 @@ fn gear(aircraft: &Aircraft, c: Configuration) -> u64
 {
     match c {
         Configuration::Landing => aircraft.gear,
-        Configuration::Cruise | Configuration::InitialClimb | Configuration::TakeOff | Configuration::Approach => 0,
+        Configuration::Cruise
+        | Configuration::InitialClimb
+        | Configuration::TakeOff
+        | Configuration::Approach => 0,
     }
 }
 
@@ -79,7 +82,11 @@ fn clean(descent: &Descent, altitude: u64) -> u64
     ensures value { λ r. ⌜ r ≡ clean-factor (now (descent .entry)) altitude ⌝ }
     ensures bound { λ r. ⌜ r ≤ 100000000 ⌝ }
 {
-    if altitude > descent.level { descent.high } else { descent.low }
+    if altitude > descent.level {
+        descent.high
+    } else {
+        descent.low
+    }
 }
 
 // The share of thrust in descent.
@@ -88,7 +95,10 @@ pub(crate) fn share(descent: &Descent, c: Configuration, altitude: u64) -> u64
     ensures bound { λ r. ⌜ r ≤ 100000000 ⌝ }
 {
     match c {
-        Configuration::Cruise | Configuration::InitialClimb | Configuration::TakeOff => clean(descent, altitude),
+        Configuration::Cruise | Configuration::InitialClimb | Configuration::TakeOff => clean(
+            descent,
+            altitude,
+        ),
         Configuration::Approach => descent.approach,
         Configuration::Landing => descent.landing,
     }

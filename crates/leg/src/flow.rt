@@ -1,12 +1,12 @@
 // The flow that a leg uses, and what it burns.
 ghost use mathlib.Core.Path.{_≡_};
 ghost use mathlib.Core.Bool.{cond};
-ghost use Prim.Native.Nat.{_*_, _/_, _≤_};
+ghost use Prim.Native.Nat.{_≤_};
 ghost use Rattle.std.specs.Vec.{made};
 ghost use Rattle.std.specs.declared.result.Result.the-variants.{Ok, Err};
 ghost use Rattle.refusal.specs.declared.refusal.Refusal.the-variants.{Flow};
 ghost use Rattle.leg.specs.Requests.{figures-of};
-ghost use Rattle.leg.specs.Rules.{burned};
+ghost use Rattle.leg.specs.Rules.{cruise-flow, burned};
 ghost use Rattle.leg.specs.Legs.{flow-answer};
 use crate::configurations::by_thrust;
 use crate::phase::Phase;
@@ -20,7 +20,7 @@ use refusal::refusal::Refusal;
 fn cruising(nominal: u64, factor: u64) -> u64
     requires nominal { ⌜ nominal ≤ 100000000000 ⌝ }
     requires factor { ⌜ factor ≤ 200000 ⌝ }
-    ensures value { λ r. ⌜ r ≡ nominal * factor / 100000 ⌝ }
+    ensures value { λ r. ⌜ r ≡ cruise-flow nominal factor ⌝ }
     ensures bound { λ r. ⌜ r ≤ 200000000000 ⌝ }
 {
     nominal * factor / 100000
@@ -43,7 +43,14 @@ fn idle<K: Kind>(kind: &K, request: &Request) -> Result<u64, Refusal>
     kind.idle(request.altitude)
 }
 
-fn descending<K: Kind>(aircraft: &Aircraft, kind: &K, c: Configuration, request: &Request, thrust: u64) -> Result<u64, Refusal>
+// Idle in CR, else the greater of nominal and idle.
+fn descending<K: Kind>(
+    aircraft: &Aircraft,
+    kind: &K,
+    c: Configuration,
+    request: &Request,
+    thrust: u64,
+) -> Result<u64, Refusal>
     requires { ⌜ thrust ≤ 10000000000 ⌝ }
     ensures value { λ r. ⌜ r ≡ flow-answer (now (aircraft .entry)) (K·Kind .engine (now (kind .entry))) Phase.Descent c (figures-of (now (request .entry))) thrust ⌝ }
     ensures bound { λ r. ⌜ made r (λ n. n ≤ 100000000000) ⌝ }
@@ -56,7 +63,14 @@ fn descending<K: Kind>(aircraft: &Aircraft, kind: &K, c: Configuration, request:
 }
 
 // In mg/min, refused where the leg needs nominal flow and the kind refuses it.
-pub(crate) fn flow<K: Kind>(aircraft: &Aircraft, kind: &K, phase: Phase, c: Configuration, request: &Request, thrust: u64) -> Result<u64, Refusal>
+pub(crate) fn flow<K: Kind>(
+    aircraft: &Aircraft,
+    kind: &K,
+    phase: Phase,
+    c: Configuration,
+    request: &Request,
+    thrust: u64,
+) -> Result<u64, Refusal>
     requires { ⌜ thrust ≤ 10000000000 ⌝ }
     ensures value { λ r. ⌜ r ≡ flow-answer (now (aircraft .entry)) (K·Kind .engine (now (kind .entry))) phase c (figures-of (now (request .entry))) thrust ⌝ }
     ensures bound { λ r. ⌜ made r (λ n. n ≤ 200000000000) ⌝ }

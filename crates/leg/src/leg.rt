@@ -31,7 +31,12 @@ use engine::kind::Kind;
 use refusal::refusal::Refusal;
 
 // The thrust that the air of the day leaves, in mN.
-fn available<K: Kind>(temperature: &Temperature, kind: &K, request: &Request, deviation: i64) -> Result<u64, Refusal>
+fn available<K: Kind>(
+    temperature: &Temperature,
+    kind: &K,
+    request: &Request,
+    deviation: i64,
+) -> Result<u64, Refusal>
     requires coldest { ⌜ negsuc 4999 ≤ℤ deviation ⌝ }
     requires warmest { ⌜ deviation ≤ℤ pos 5000 ⌝ }
     ensures value { λ r. ⌜ r ≡ Ok (available-thrust (K·Kind .engine (now (kind .entry)) .thrust (now (request .entry) .altitude) (now (request .entry) .speed)) (temperature-factor (now (temperature .entry)) deviation)) ⌝ }
@@ -42,23 +47,47 @@ fn available<K: Kind>(temperature: &Temperature, kind: &K, request: &Request, de
 }
 
 // What a leg that its wing lifts answers, with this drag and available thrust.
-fn powered<K: Kind>(aircraft: &Aircraft, kind: &K, phase: Phase, c: Configuration, request: &Request, drag: u64, available: u64) -> Result<Flown, Refusal>
+fn powered<K: Kind>(
+    aircraft: &Aircraft,
+    kind: &K,
+    phase: Phase,
+    c: Configuration,
+    request: &Request,
+    drag: u64,
+    available: u64,
+) -> Result<Flown, Refusal>
     requires { ⌜ available ≤ 10000000000 ⌝ }
     ensures { λ r. ⌜ r ≡ powered-answer (now (aircraft .entry)) (K·Kind .engine (now (kind .entry))) phase c (figures-of (now (request .entry))) drag available ⌝ }
 {
-    let thrust = used(phase, drag, available, share(&aircraft.descent, c, request.altitude));
+    let factor = share(&aircraft.descent, c, request.altitude);
+    let thrust = used(phase, drag, available, factor);
     let flow = flow(aircraft, kind, phase, c, request, thrust)?;
     let burn = burn(flow, request.seconds);
-    Ok(Flown { configuration: c, thrust, drag, flow, burn, limited: short(phase, drag, available) })
+    Ok(Flown {
+        configuration: c,
+        thrust,
+        drag,
+        flow,
+        burn,
+        limited: short(phase, drag, available),
+    })
 }
 
 // Refused where the wing does not lift the mass, and then where the leg needs nominal flow and the kind refuses it.
-pub fn fly<K: Kind, D: Day>(aircraft: &Aircraft, kind: &K, day: &D, phase: Phase, request: &Request, mass: Mass) -> Result<Flown, Refusal>
+pub fn fly<K: Kind, D: Day>(
+    aircraft: &Aircraft,
+    kind: &K,
+    day: &D,
+    phase: Phase,
+    request: &Request,
+    mass: Mass,
+) -> Result<Flown, Refusal>
     ensures { λ r. ⌜ r ≡ leg-answer (now (aircraft .entry)) (K·Kind .engine (now (kind .entry))) (D·Day .air (now (day .entry))) phase (figures-of (now (request .entry))) (mass .milligrams) ⌝ }
 {
     let (density, deviation) = day.at(request.altitude)?;
     let c = configuration(aircraft, phase, request);
-    let drag = drag(coefficients(aircraft, c), mass, force(density, request.speed, aircraft.wing))?;
+    let force = force(density, request.speed, aircraft.wing);
+    let drag = drag(coefficients(aircraft, c), mass, force)?;
     let available = available(&aircraft.temperature, kind, request, deviation)?;
     powered(aircraft, kind, phase, c, request, drag, available)
 }

@@ -1,14 +1,13 @@
-pub mod phase;
-pub mod mass;
-pub mod request;
-pub mod flown;
-pub mod requests;
 mod configurations;
 mod drag;
-mod thrust;
 mod flow;
+pub mod flown;
 pub mod leg;
+pub mod mass;
 pub mod nearness;
-
+pub mod phase;
+pub mod request;
+pub mod requests;
 #[cfg(test)]
 mod tests;
+mod thrust;

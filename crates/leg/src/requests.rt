@@ -7,7 +7,13 @@ use refusal::refusal::Refusal;
 
 impl Request {
     // Refused by the first figure that is out of its range.
-    pub fn new(aircraft: &Aircraft, altitude: u64, speed: u64, calibrated: u64, seconds: u64) -> Result<Request, Refusal>
+    pub fn new(
+        aircraft: &Aircraft,
+        altitude: u64,
+        speed: u64,
+        calibrated: u64,
+        seconds: u64,
+    ) -> Result<Request, Refusal>
         ensures { λ r. ⌜ requested r ≡ taken-figures (now (aircraft .entry)) (record { altitude = altitude; speed = speed; calibrated = calibrated; seconds = seconds }) ⌝ }
     {
         if altitude > aircraft.ceiling {
@@ -22,6 +28,11 @@ impl Request {
         if seconds < 1 || seconds > 60 {
             return Err(Refusal::Seconds);
         }
-        Ok(Request { altitude, speed, calibrated, seconds })
+        Ok(Request {
+            altitude,
+            speed,
+            calibrated,
+            seconds,
+        })
     }
 }

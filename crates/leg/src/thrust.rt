@@ -22,7 +22,11 @@ fn held(loss: i64) -> u64
     ensures value { λ r. ⌜ r ≡ held-loss loss ⌝ }
     ensures bound { λ r. ⌜ r ≤ 400000000 ⌝ }
 {
-    if loss < 0 { 0 } else { (loss as u64).min(400000000) }
+    if loss < 0 {
+        0
+    } else {
+        (loss as u64).min(400000000)
+    }
 }
 
 // What warm air takes of thrust, in 10⁻⁹.

@@ -1,8 +1,8 @@
 -- The burn of a leg is within its phase's rate of the exact burn at the same mass.
 --   thrust-error flow-error     how far thrust used and flow used are from their exact values, by phase
-use mathlib.Core.Path.{_≡_, refl}
+use mathlib.Core.Path.{_≡_}
 use mathlib.Core.Bool.{Bool, true, false, cond, _&&_}
-use Prim.Native.Nat.{ℕ, _+_, _*_, _/_, _^_, _≤_}
+use Prim.Native.Nat.{ℕ, _+_, _*_, _^_, _≤_}
 use native.Mathlib.Omega.{arith}
 use lib.Dec.{ltb}
 use Rattle.std.specs.Numbers.{divEuclid}
@@ -20,7 +20,7 @@ use Rattle.leg.specs.declared.phase.Phase.the-variants as phase
 use Rattle.leg.specs.Requests.{Figures, In-range}
 use Rattle.leg.specs.Configurations.{descent-factor, needs-nominal}
 use Rattle.leg.specs.Rules.{warming, weight, thrust-used}
-use Rattle.leg.specs.Legs.{density-at, deviation-at, leg-force, leg-drag, leg-available, leg-flow, leg-refuses-flow}
+use Rattle.leg.specs.Legs.{density-at, deviation-at, leg-force, leg-drag, leg-available, leg-flow}
 use Rattle.leg.specs.Exact.{exact-leg-force, exact-weight, exact-drag, exact-available, exact-thrust, exact-flow, exact-burn-with}
 use Rattle.leg.specs.Nearness.{leg-rate, Drag-bounds, Accepted, Burn-near}
 use Rattle.leg.proofs.Near.Drag.{force-near, weight-near, drag-near, force-positive}
@@ -59,11 +59,11 @@ module _ (a : Aircraft) (air : Air) (f : Figures) where
   leg-available-near k laws range =
       available-near _ _ (temperature-near (a .temperature) (deviation-at air f)) (held-high (divEuclid (warming (a .temperature) (deviation-at air f)) (pos 1000))) _ _
       (record {
-         near = laws .thrust-near (f .altitude) (f .speed) (range .low) (range .slowest) (range .fastest);
-         high = laws .thrust-high (f .altitude) (f .speed) (range .low) (range .slowest) (range .fastest);
-         exact-low = laws .exact-thrust-low (f .altitude) (f .speed) (range .low) (range .slowest) (range .fastest);
-         exact-high = laws .exact-thrust-high (f .altitude) (f .speed) (range .low) (range .slowest) (range .fastest);
-       })
+        near = laws .thrust-near (f .altitude) (f .speed) (range .low) (range .slowest) (range .fastest);
+        high = laws .thrust-high (f .altitude) (f .speed) (range .low) (range .slowest) (range .fastest);
+        exact-low = laws .exact-thrust-low (f .altitude) (f .speed) (range .low) (range .slowest) (range .fastest);
+        exact-high = laws .exact-thrust-high (f .altitude) (f .speed) (range .low) (range .slowest) (range .fastest);
+      })
       (exact-temperature-low (a .temperature) (deviation-at air f))
       (exact-temperature-high (a .temperature) (deviation-at air f))
 
@@ -125,4 +125,4 @@ unfolding exact-burn-with
 burn-near a k air p c pair f mass laws day bounds ok =
     burned-near (leg-rate p) (leg-flow a k p c f (leg-thrust a k air p c pair f mass)) (f .seconds) (exact-flow a k p c f (exact-thrust a k air p c pair f (nat mass))) (rate-enough p) (ok .figures .shortest)
     (leg-flow-near a k air c pair f mass laws bounds p (leg-thrust a k air p c pair f mass) (exact-thrust a k air p c pair f (nat mass)) ok
-     (leg-thrust-near a k air c pair f mass laws bounds p ok))
+    (leg-thrust-near a k air c pair f mass laws bounds p ok))

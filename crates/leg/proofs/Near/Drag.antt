@@ -1,19 +1,20 @@
 -- Force, weight and drag are near their exact values.
 use mathlib.Core.Path.{_≡_, ap}
 use mathlib.Core.Logic.{⊎-elim}
-use mathlib.Core.List.{List, [], _∷_}
-use Prim.Native.Nat.{ℕ, _+_, _-_, _*_, _/_, _^_, _<_, _≤_}
+use mathlib.Core.List.{[], _∷_}
+use Prim.Native.Nat.{ℕ, _+_, _-_, _*_, _/_, _^_, _≤_}
 use native.Mathlib.Nat.{div-mul-le-self, lt-div-mul-add, mul-le-mul-left}
 use native.Mathlib.Omega.{arith}
-use Rattle.exact.specs.Rational.{ℚ, nat, _+ℚ_, _-ℚ_, _*ℚ_, _÷ℚ_, _≤ℚ_, _<ℚ_, Near}
-use Rattle.exact.proofs.Laws.{≤-refl, ≤-trans, nat-≥0, nat-≤, nat-<, <-≤-trans, *-mono-left, *-mono₂, *-≥0, ÷-≤, ≤-÷, ÷-≥0, near-out, near-in, near-weaken, near-+, near-≈, near-floor, either-≤, nat-+, ≈-refl}
-use Rattle.exact.proofs.Linear.{linear, at, con, _⊕_, _⊖_, _≼_, near}
+use Rattle.exact.specs.Rational.{ℚ, nat, _+ℚ_, _*ℚ_, _÷ℚ_, _≤ℚ_, _<ℚ_, Near}
+use Rattle.exact.proofs.Laws.{≤-trans, nat-≥0, nat-≤, nat-<, <-≤-trans, *-mono-left, *-mono₂, *-≥0, ÷-≤, ≤-÷, ÷-≥0, near-in, near-weaken, near-+, near-≈, near-floor, either-≤, nat-+, ≈-refl}
+use Rattle.exact.proofs.Linear.{linear, at, con, _⊕_, _≼_, near}
 use Rattle.engine.proofs.Bounds.{quotient}
 use Rattle.engine.proofs.Rounding.{near-times, times-near, near-high}
 use Rattle.leg.specs.Rules.{dynamic-pressure, wing-force, weight, parasitic-drag, induced-drag, drag-of}
 use Rattle.leg.specs.Nearness.{Drag-bounds}
 use Rattle.leg.specs.Exact.{exact-pressure, exact-force, exact-weight, exact-parasitic, exact-induced, exact-drag-of}
 
+-- a lower bound of an exact value by the rounded one
 pub near-low : {n e : ℕ} {x : ℚ} (m : ℕ) → m + e ≤ n → Near (nat n) x (nat e) → nat m ≤ℚ x
 near-low {n} {e} {x} m p h = linear (nat m ∷ nat n ∷ x ∷ nat e ∷ []) (near (at 1) (at 2) (at 3) ∷ at 0 ⊕ at 3 ≼ at 1 ∷ []) (at 0 ≼ at 2) (λ d u w p h. omega arith) (h, (omega arith, tt))
 
@@ -34,10 +35,12 @@ loading w q = 10 * (w * w) / q
 abbrev pub exact-loading : ℚ → ℚ → ℚ
 exact-loading x y = nat 10 *ℚ (x *ℚ x) ÷ℚ y
 
+-- 2 more of the weight and 2 less of the force bring at most 15 more
 loading-above : (w q p : ℕ) → q ≡ p + 2 → 1000 ≤ w → 10 * w ≤ 3 * q → loading w q ≤ 3 * w → 10 * ((w + 2) * (w + 2)) ≤ (loading w q + 15) * p
 loading-above w q p h heavy lift most =
     omega (arith, lt-div-mul-add {a = 10 * (w * w)} {b = q} (omega arith), ap (λ (n : ℕ). loading w q * n) h)
 
+-- and the other way round at most 15 less
 loading-below : (w q v b : ℕ) → w ≡ v + 2 → loading w q ≡ b + 15 → 10 * w ≤ 3 * q → loading w q ≤ 3 * w → b * (q + 2) ≤ 10 * (v * v)
 loading-below w q v b e h lift most =
     omega (arith, div-mul-le-self (10 * (w * w)) q, ap (λ (n : ℕ). n * n) e, ap (λ (n : ℕ). n * q) h)
@@ -68,7 +71,7 @@ module _ (w q : ℕ) (x y : ℚ) (heavy : 1000 ≤ w) (lift : 10 * w ≤ 3 * q) 
   above =
       ÷-≤ force-positive
       (≤-trans (*-mono-left (nat 10) (nat-≥0 10) (*-mono₂ weight-≥0 (nat-≥0 (w + 2)) weight-high weight-high))
-       (≤-trans naturals (*-mono-left (nat (loading w q + 15)) (nat-≥0 (loading w q + 15)) force-low)))
+      (≤-trans naturals (*-mono-left (nat (loading w q + 15)) (nat-≥0 (loading w q + 15)) force-low)))
     where
       naturals : nat 10 *ℚ (nat (w + 2) *ℚ nat (w + 2)) ≤ℚ nat (loading w q + 15) *ℚ nat (q - 2)
       naturals = omega (arith, loading-above w q (q - 2) (omega arith) heavy lift most)
@@ -77,7 +80,7 @@ module _ (w q : ℕ) (x y : ℚ) (heavy : 1000 ≤ w) (lift : 10 * w ≤ 3 * q) 
   below b e =
       ≤-÷ force-positive
       (≤-trans (*-mono-left (nat b) (nat-≥0 b) force-high)
-       (≤-trans naturals (*-mono-left (nat 10) (nat-≥0 10) (*-mono₂ (nat-≥0 (w - 2)) weight-≥0 weight-low weight-low))))
+      (≤-trans naturals (*-mono-left (nat 10) (nat-≥0 10) (*-mono₂ (nat-≥0 (w - 2)) weight-≥0 weight-low weight-low))))
     where
       naturals : nat b *ℚ nat (q + 2) ≤ℚ nat 10 *ℚ (nat (w - 2) *ℚ nat (w - 2))
       naturals = omega (arith, loading-below w q (w - 2) b (omega arith) e lift most)
@@ -101,7 +104,7 @@ module _ (w q : ℕ) (x y : ℚ) (heavy : 1000 ≤ w) (lift : 10 * w ≤ 3 * q) 
   drag-near pair b =
       near-weaken
       (near-≈ (nat-+ (parasitic-drag (pair .0) q) (induced-drag (pair .1) w q)) (≈-refl _)
-       (near-+
-        (times-near (pair .0) (10 ^ 8) 3 (omega arith) (omega (arith, b .parasitic)) presses)
-        (times-near (pair .1) (10 ^ 7) 72 (omega arith) (omega (arith, b .induced)) loading-near)))
+      (near-+
+      (times-near (pair .0) (10 ^ 8) 3 (omega arith) (omega (arith, b .parasitic)) presses)
+      (times-near (pair .1) (10 ^ 7) 72 (omega arith) (omega (arith, b .induced)) loading-near)))
       (omega arith)

@@ -1,19 +1,18 @@
 -- Flow and burn are near their exact values, by phase.
 use mathlib.Core.Path.{_≡_, refl}
 use mathlib.Core.Bool.{true, false}
-use mathlib.Core.List.{List, [], _∷_}
+use mathlib.Core.List.{[], _∷_}
 use mathlib.Core.Logic.{⊎-elim}
-use Prim.Native.Nat.{ℕ, _+_, _*_, _/_, _^_, _<_, _≤_, max}
+use Prim.Native.Nat.{ℕ, _+_, _*_, _^_, _≤_, max}
 use native.Mathlib.Nat.{mul-le-mul-right}
 use native.Mathlib.Omega.{arith}
-use Rattle.exact.specs.Rational.{ℚ, nat, _+ℚ_, _-ℚ_, _*ℚ_, _÷ℚ_, maxℚ, _≤ℚ_, Near}
+use Rattle.exact.specs.Rational.{ℚ, nat, maxℚ, _≤ℚ_, Near}
 use Rattle.exact.proofs.Laws.{≤-total, ≈-refl, nat-≥0, nat-≤, nat-max, near-≈, near-sym, near-trans, near-weaken, near-max}
-use Rattle.exact.proofs.Linear.{linear, at, con, _⊖_, _⊛_, _≼_, near}
+use Rattle.exact.proofs.Linear.{linear, at, _⊖_, _⊛_, _≼_, near}
 use Rattle.engine.specs.Meaning.{KindMeaning, KindLaws}
 use Rattle.engine.proofs.Rounding.{near-times}
 use Rattle.aircraft.specs.declared.words.Configuration.{Configuration}
 use Rattle.aircraft.specs.declared.words.Configuration.the-variants as flaps
-use Rattle.leg.specs.declared.phase.Phase.{Phase}
 use Rattle.leg.specs.declared.phase.Phase.the-variants.{Climb, Cruise, Descent}
 use Rattle.leg.specs.Configurations.{needs-nominal}
 use Rattle.leg.specs.Rules.{flow-used, burned}
@@ -39,8 +38,8 @@ module _ (k : KindMeaning) (laws : KindLaws k) (v : ℕ) (slowest : 300 ≤ v) (
   nominal-near n x e t p thrust =
       near-weaken
       (near-trans
-       (laws .nominal-near v n slowest fastest burns (thrust .high))
-       (exact-nominal-near (nat n) x e t (nat-≥0 n) (nat-≤ (thrust .high)) (thrust .exact-low) (thrust .exact-high) p (thrust .near)))
+      (laws .nominal-near v n slowest fastest burns (thrust .high))
+      (exact-nominal-near (nat n) x e t (nat-≥0 n) (nat-≤ (thrust .high)) (thrust .exact-low) (thrust .exact-high) p (thrust .near)))
       (omega arith)
 
 -- the flow used, from nominal and idle flow

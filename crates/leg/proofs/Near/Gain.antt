@@ -1,30 +1,28 @@
 -- The exact burn of a leg does not fall as the mass grows, and gains no more than the mass does.
-use mathlib.Core.List.{List, [], _∷_}
-use Prim.Native.Nat.{ℕ, _+_, _*_, _^_, _<_, _≤_}
+use mathlib.Core.List.{[], _∷_}
+use Prim.Native.Nat.{ℕ, _+_, _^_}
 use native.Mathlib.Omega.{arith}
-use Rattle.exact.specs.Rational.{ℚ, nat, _+ℚ_, _-ℚ_, _*ℚ_, _÷ℚ_, minℚ, _≤ℚ_, _≈_}
+use Rattle.exact.specs.Rational.{ℚ, nat, _+ℚ_, _-ℚ_, _*ℚ_, _≤ℚ_, _≈_}
 use Rattle.exact.proofs.Laws.{≤-refl, ≤-trans, ≈-refl, ≈→≤, min-mono}
 use Rattle.exact.proofs.Linear.{linear, at, con, _⊕_, _⊖_, _⊛_, _≼_, _≋_, near}
 use Rattle.aircraft.specs.declared.record.Aircraft.{Aircraft}
 use Rattle.aircraft.specs.declared.words.Configuration.{Configuration}
 use Rattle.air.specs.Day.{Air}
 use Rattle.engine.specs.Meaning.{KindMeaning, KindLaws}
-use Rattle.leg.specs.declared.phase.Phase.{Phase}
 use Rattle.leg.specs.declared.phase.Phase.the-variants.{Climb, Cruise, Descent}
-use Rattle.leg.specs.Requests.{Figures, In-range}
-use Rattle.leg.specs.Configurations.{descent-factor}
+use Rattle.leg.specs.Requests.{Figures}
 use Rattle.leg.specs.Rules.{weight}
 use Rattle.leg.specs.Legs.{leg-force}
 use Rattle.leg.specs.Exact.{exact-weight, exact-leg-force, exact-drag, exact-available, exact-cruise-cap, exact-thrust-used, exact-flow-used, exact-burned, exact-thrust, exact-flow, exact-burn-with}
 use Rattle.leg.specs.Nearness.{Drag-bounds, Accepted, Burn-rises, Burn-gains}
 use Rattle.leg.proofs.Near.Drag.{weight-near}
 use Rattle.leg.proofs.Near.Thrust.{exact-cruising-low, exact-cruising-high}
-use Rattle.leg.proofs.Near.Slope.{scaled-rises, scaled-gains, least-gains, exact-weight-is, exact-weight-low, exact-weight-rises, exact-weight-gains, exact-drag-rises, exact-drag-gains}
+use Rattle.leg.proofs.Near.Slope.{more, scaled-rises, scaled-gains, least-gains, exact-weight-is, exact-weight-low, exact-weight-rises, exact-weight-gains, exact-drag-rises, exact-drag-gains}
 use Rattle.leg.proofs.Near.Burn.{leg-force-near, leg-available-near, exact-force-positive, leg-exact-drag-low}
 
 -- an accepted cruise at an exact mass x, and at a greater x′ up to 100 kg above its mass
 module _ (a : Aircraft) (k : KindMeaning) (air : Air) (c : Configuration) (pair : ℕ × ℕ) (f : Figures) (mass : ℕ) (laws : KindLaws k) (bounds : Drag-bounds pair) (ok : Accepted a k air Cruise c f mass)
-  (x x′ : ℚ) (low : nat 0 ≤ℚ x) (h : x ≤ℚ x′) (high : x′ ≤ℚ nat (mass + 10 ^ 8)) where
+    (x x′ : ℚ) (low : nat 0 ≤ℚ x) (h : x ≤ℚ x′) (high : x′ ≤ℚ nat (mass + 10 ^ 8)) where
   -- both weights together are below the force
   both-light : exact-weight x′ +ℚ exact-weight x ≤ℚ exact-leg-force a air f
   both-light =
@@ -39,16 +37,19 @@ module _ (a : Aircraft) (k : KindMeaning) (air : Air) (c : Configuration) (pair 
   drag-rises =
       exact-drag-rises (exact-leg-force a air f) (exact-force-positive a air f mass (ok .light) (ok .lift)) (exact-weight x) (exact-weight x′) (exact-weight-low x low) (exact-weight-rises x x′ h) pair bounds
 
+  by-weight : exact-drag a air pair f x′ -ℚ exact-drag a air pair f x ≤ℚ nat 50 *ℚ (exact-weight x′ -ℚ exact-weight x)
+  unfolding exact-drag
+  by-weight =
+      exact-drag-gains (exact-leg-force a air f) (exact-force-positive a air f mass (ok .light) (ok .lift)) (exact-weight x) (exact-weight x′) (exact-weight-low x low) (exact-weight-rises x x′ h) pair bounds both-light
+
   -- at most 0.05 mN a milligram
   drag-gains : nat 20 *ℚ (exact-drag a air pair f x′ -ℚ exact-drag a air pair f x) ≤ℚ x′ -ℚ x
-  unfolding exact-drag
   drag-gains =
-      linear (exact-drag a air pair f x ∷ exact-drag a air pair f x′ ∷ exact-weight x ∷ exact-weight x′ ∷ x ∷ x′ ∷ [])
-      (at 1 ⊖ at 0 ≼ 50 ⊛ (at 3 ⊖ at 2) ∷ 1000 ⊛ (at 3 ⊖ at 2) ≼ at 5 ⊖ at 4 ∷ [])
-      (20 ⊛ (at 1 ⊖ at 0) ≼ at 5 ⊖ at 4)
+      linear ((x′ -ℚ x) ∷ (exact-weight x′ -ℚ exact-weight x) ∷ (exact-drag a air pair f x′ -ℚ exact-drag a air pair f x) ∷ [])
+      (1000 ⊛ at 1 ≼ at 0 ∷ at 2 ≼ 50 ⊛ at 1 ∷ [])
+      (20 ⊛ at 2 ≼ at 0)
       (λ d u w p h. omega arith)
-      (exact-drag-gains (exact-leg-force a air f) (exact-force-positive a air f mass (ok .light) (ok .lift)) (exact-weight x) (exact-weight x′) (exact-weight-low x low) (exact-weight-rises x x′ h) pair bounds both-light,
-       (exact-weight-gains x x′ h, tt))
+      (exact-weight-gains x x′ h, (by-weight, tt))
 
   thrust : ℚ → ℚ
   thrust y = exact-thrust a k air Cruise c pair f y
@@ -101,11 +102,11 @@ module _ (a : Aircraft) (k : KindMeaning) (air : Air) (c : Configuration) (pair 
 
   pub cruise-burn-gains : exact-burn-with a k air Cruise c pair f x′ -ℚ exact-burn-with a k air Cruise c pair f x ≤ℚ x′ -ℚ x
   cruise-burn-gains =
-      linear (x ∷ x′ ∷ exact-drag a air pair f x ∷ exact-drag a air pair f x′ ∷ thrust x ∷ thrust x′ ∷ nominal x ∷ nominal x′ ∷ flow x ∷ flow x′ ∷ exact-burn-with a k air Cruise c pair f x ∷ exact-burn-with a k air Cruise c pair f x′ ∷ [])
-      (at 0 ≼ at 1 ∷ 20 ⊛ (at 3 ⊖ at 2) ≼ at 1 ⊖ at 0 ∷ at 5 ⊖ at 4 ≼ at 3 ⊖ at 2 ∷ 1000 ⊛ (at 7 ⊖ at 6) ≼ 4001 ⊛ (at 5 ⊖ at 4) ∷ at 9 ⊖ at 8 ≼ 2 ⊛ (at 7 ⊖ at 6) ∷ at 11 ⊖ at 10 ≼ 1 ⊛ (at 9 ⊖ at 8) ∷ [])
-      (at 11 ⊖ at 10 ≼ at 1 ⊖ at 0)
+      linear ((x′ -ℚ x) ∷ (exact-drag a air pair f x′ -ℚ exact-drag a air pair f x) ∷ (thrust x′ -ℚ thrust x) ∷ (nominal x′ -ℚ nominal x) ∷ (flow x′ -ℚ flow x) ∷ (exact-burn-with a k air Cruise c pair f x′ -ℚ exact-burn-with a k air Cruise c pair f x) ∷ [])
+      (con 0 ≼ at 0 ∷ 20 ⊛ at 1 ≼ at 0 ∷ at 2 ≼ at 1 ∷ 1000 ⊛ at 3 ≼ 4001 ⊛ at 2 ∷ at 4 ≼ 2 ⊛ at 3 ∷ at 5 ≼ 1 ⊛ at 4 ∷ [])
+      (at 5 ≼ at 0)
       (λ d u w p h. omega arith)
-      (h, (drag-gains, (thrust-gains, (nominal-gains, (flow-gains, (by-flow, tt))))))
+      (more h, (drag-gains, (thrust-gains, (nominal-gains, (flow-gains, (by-flow, tt))))))
 
 -- in climb and descent the exact burn does not go by the mass
 module _ (a : Aircraft) (k : KindMeaning) (air : Air) (c : Configuration) (pair : ℕ × ℕ) (f : Figures) (x x′ : ℚ) where

@@ -1,16 +1,16 @@
 -- How a multiple, the least of two, the exact weight and the exact drag go with what they are taken of.
-use mathlib.Core.List.{List, [], _∷_}
+use mathlib.Core.List.{[], _∷_}
 use mathlib.Core.Logic.{⊎-elim}
-use Prim.Native.Nat.{ℕ, _+_, _*_, _^_, _<_, _≤_}
+use Prim.Native.Nat.{ℕ, _*_, _^_, _<_, _≤_}
 use native.Mathlib.Omega.{arith}
 use Rattle.exact.specs.Rational.{ℚ, nat, _+ℚ_, _-ℚ_, _*ℚ_, _÷ℚ_, minℚ, _≤ℚ_, _<ℚ_, _≈_}
-use Rattle.exact.proofs.Laws.{≤-refl, ≤-trans, ≈-refl, ≈→≤, ≈→≥, <→≤, nat-≥0, nat-≤, nat-<, +-*, *-comm, *-assoc, *-−, *-≥0, *-mono, *-mono-left, *-mono₂, difference-of-squares, ÷-*, ÷-≤, ÷-≥0, ÷-mono, ÷-≈, min-left, min-right, min-either}
+use Rattle.exact.proofs.Laws.{≤-trans, ≈-refl, ≈→≥, <→≤, nat-≥0, nat-≤, nat-<, +-*, *-comm, *-assoc, *-−, *-≥0, *-mono, *-mono-left, *-mono₂, difference-of-squares, ÷-*, ÷-≤, ÷-≥0, ÷-mono, ÷-≈, min-left, min-right, min-either}
 use Rattle.exact.proofs.Linear.{linear, at, con, _⊕_, _⊖_, _⊛_, _≼_, _≋_}
 use Rattle.leg.specs.Exact.{exact-weight, exact-parasitic, exact-induced, exact-drag-of}
 use Rattle.leg.specs.Nearness.{Drag-bounds}
 use Rattle.leg.proofs.Near.Drag.{exact-loading}
 
-more : {x x′ : ℚ} → x ≤ℚ x′ → nat 0 ≤ℚ x′ -ℚ x
+pub more : {x x′ : ℚ} → x ≤ℚ x′ → nat 0 ≤ℚ x′ -ℚ x
 more {x} {x′} h = linear (x ∷ x′ ∷ []) (at 0 ≼ at 1 ∷ []) (con 0 ≼ at 1 ⊖ at 0) (λ d u w p h. omega arith) (h, tt)
 
 -- m times over b, where that is at most t
@@ -22,10 +22,10 @@ module _ (m b t : ℕ) (p : 0 < b) (q : m ≤ t * b) (x x′ : ℚ) (h : x ≤�
   steeper =
       ≤-trans
       (linear (x′ *ℚ nat m ∷ x *ℚ nat m ∷ (x′ -ℚ x) *ℚ nat m ∷ (x′ -ℚ x) *ℚ nat (t * b) ∷ nat t *ℚ (x′ -ℚ x) *ℚ nat b ∷ (x *ℚ nat m ÷ℚ nat b) *ℚ nat b ∷ [])
-       (at 2 ≋ at 0 ⊖ at 1 ∷ at 2 ≼ at 3 ∷ at 3 ≋ at 4 ∷ at 5 ≋ at 1 ∷ [])
-       (at 0 ≼ at 5 ⊕ at 4)
-       (λ d u w p h. omega arith)
-       (*-− x′ x (nat m), (*-mono-left (x′ -ℚ x) (more h) (nat-≤ q), (omega arith, (÷-* (x *ℚ nat m) {y = nat b} (nat-< p), tt)))))
+      (at 2 ≋ at 0 ⊖ at 1 ∷ at 2 ≼ at 3 ∷ at 3 ≋ at 4 ∷ at 5 ≋ at 1 ∷ [])
+      (at 0 ≼ at 5 ⊕ at 4)
+      (λ d u w p h. omega arith)
+      (*-− x′ x (nat m), (*-mono-left (x′ -ℚ x) (more h) (nat-≤ q), (omega arith, (÷-* (x *ℚ nat m) {y = nat b} (nat-< p), tt)))))
       (≈→≥ (+-* (x *ℚ nat m ÷ℚ nat b) (nat t *ℚ (x′ -ℚ x)) (nat b)))
 
   pub scaled-gains : x′ *ℚ nat m ÷ℚ nat b -ℚ x *ℚ nat m ÷ℚ nat b ≤ℚ nat t *ℚ (x′ -ℚ x)
@@ -83,12 +83,12 @@ module _ (y : ℚ) (force : nat 0 <ℚ y) where
     loading-gains light =
         ÷-≤ force
         (≤-trans
-         (linear (w′ *ℚ w′ ∷ w *ℚ w ∷ (w′ -ℚ w) *ℚ (w′ +ℚ w) ∷ (w′ -ℚ w) *ℚ y ∷ nat 10 *ℚ (w′ -ℚ w) *ℚ y ∷ exact-loading w y *ℚ y ∷ [])
-          (at 2 ≋ at 0 ⊖ at 1 ∷ at 2 ≼ at 3 ∷ at 4 ≋ 10 ⊛ at 3 ∷ at 5 ≋ 10 ⊛ at 1 ∷ [])
-          (10 ⊛ at 0 ≼ at 5 ⊕ at 4)
-          (λ d u w p h. omega arith)
-          (difference-of-squares w w′, (*-mono-left (w′ -ℚ w) (more h) light, (*-assoc (nat 10) (w′ -ℚ w) y, (÷-* (nat 10 *ℚ (w *ℚ w)) force, tt)))))
-         (≈→≥ (+-* (exact-loading w y) (nat 10 *ℚ (w′ -ℚ w)) y)))
+        (linear (w′ *ℚ w′ ∷ w *ℚ w ∷ (w′ -ℚ w) *ℚ (w′ +ℚ w) ∷ (w′ -ℚ w) *ℚ y ∷ nat 10 *ℚ (w′ -ℚ w) *ℚ y ∷ exact-loading w y *ℚ y ∷ [])
+        (at 2 ≋ at 0 ⊖ at 1 ∷ at 2 ≼ at 3 ∷ at 4 ≋ 10 ⊛ at 3 ∷ at 5 ≋ 10 ⊛ at 1 ∷ [])
+        (10 ⊛ at 0 ≼ at 5 ⊕ at 4)
+        (λ d u w p h. omega arith)
+        (difference-of-squares w w′, (*-mono-left (w′ -ℚ w) (more h) light, (*-assoc (nat 10) (w′ -ℚ w) y, (÷-* (nat 10 *ℚ (w *ℚ w)) force, tt)))))
+        (≈→≥ (+-* (exact-loading w y) (nat 10 *ℚ (w′ -ℚ w)) y)))
 
     module _ (pair : ℕ × ℕ) (bounds : Drag-bounds pair) where
       induced : ℚ → ℚ

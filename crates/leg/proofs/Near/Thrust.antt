@@ -1,16 +1,15 @@
 -- The temperature factor, the available thrust and the thrust used are near their exact values, and stay within 0 and 10¹⁰ mN.
-use Prim.Native.Nat.{ℕ, _+_, _-_, _*_, _/_, _^_, _<_, _≤_, min}
+use Prim.Native.Nat.{ℕ, _+_, _-_, _*_, _/_, _^_, _<_, _≤_}
 use native.Mathlib.Omega.{arith}
-use mathlib.Core.List.{List, [], _∷_}
+use mathlib.Core.List.{[], _∷_}
 use lib.IntN.{ℤ, pos, negsuc}
-use Rattle.exact.specs.Rational.{ℚ, nat, int, _+ℚ_, _-ℚ_, _*ℚ_, _÷ℚ_, minℚ, maxℚ, _≤ℚ_, _≈_, Near}
-use Rattle.exact.proofs.Laws.{≤-refl, ≤-trans, ≈-refl, nat-≥0, nat-≤, nat-<, nat-−, nat-*, nat-min, left-max, max-≤, min-left, min-right, ≤-min, *-≥0, *-mono₂, ÷-≤, ÷-≥0, near-≈, near-same, near-weaken, near-−, near-product, near-min, near-held, near-int-floor}
+use Rattle.exact.specs.Rational.{ℚ, nat, int, _-ℚ_, _*ℚ_, _÷ℚ_, minℚ, maxℚ, _≤ℚ_, _≈_, Near}
+use Rattle.exact.proofs.Laws.{≤-trans, ≈-refl, nat-≥0, nat-≤, nat-<, nat-−, nat-*, nat-min, left-max, max-≤, min-left, min-right, ≤-min, *-≥0, *-mono₂, ÷-≤, ÷-≥0, near-≈, near-same, near-weaken, near-−, near-product, near-min, near-held, near-int-floor}
 use Rattle.exact.proofs.Linear.{linear, at, con, _⊕_, _⊖_, _⊛_, _≼_, _≋_}
 use Rattle.engine.proofs.Bounds.{product, quotient, share}
 use Rattle.engine.proofs.Rounding.{near-over, times-near}
 use Rattle.std.specs.Numbers.{divEuclid}
 use Rattle.aircraft.specs.declared.record.Temperature.{Temperature}
-use Rattle.leg.specs.declared.phase.Phase.{Phase}
 use Rattle.leg.specs.declared.phase.Phase.the-variants.{Climb, Cruise, Descent}
 use Rattle.leg.specs.Rules.{greatest-loss, warming, held-loss, temperature-factor, available-thrust, cruise-cap, thrust-used}
 use Rattle.leg.specs.Exact.{exact-temperature, exact-available-thrust, exact-cruise-cap, exact-thrust-used}
@@ -43,7 +42,7 @@ pub record Thrust-near (n : ℕ) (x : ℚ) (e : ℕ) : Type 0 where
   pub exact-low : nat 0 ≤ℚ x
   pub exact-high : x ≤ℚ nat (10 ^ 10)
 
--- what a loss of the 10⁹th parts leaves
+-- what a loss leaves of 10⁹ parts, and of a thrust in their proportion
 module _ (e : ℕ) (y : ℚ) (loss : Near (nat e) y (nat 1)) (small : e ≤ greatest-loss) where
   left-near : Near (nat (10 ^ 9 - e)) (nat (10 ^ 9) -ℚ y) (nat 1)
   left-near = near-weaken (near-≈ (nat-− (omega arith)) (≈-refl _) (near-− (near-same (≈-refl (nat (10 ^ 9))) (nat-≥0 0)) loss)) (omega arith)
@@ -54,8 +53,7 @@ module _ (e : ℕ) (y : ℚ) (loss : Near (nat e) y (nat 1)) (small : e ≤ grea
         near-weaken
         (near-≈ (nat-* n (10 ^ 9 - e)) (≈-refl _) (near-product (nat-≥0 (10 ^ 9 - e)) (standard .exact-low) (standard .near) left-near))
         (linear (nat (10 ^ 9 - e) ∷ x ∷ x *ℚ nat 1 ∷ []) (at 0 ≼ con (10 ^ 9) ∷ at 1 ≼ con (10 ^ 10) ∷ at 2 ≋ at 1 ∷ []) (10 ⊛ at 0 ⊕ at 2 ≼ con (2 * 10 ^ 10)) (λ d u w p h. omega arith)
-         (nat-≤ (omega arith), (standard .exact-high, (omega arith, tt))))
-
+        (nat-≤ (omega arith), (standard .exact-high, (omega arith, tt))))
 
     pub available-near : nat 0 ≤ℚ y → y ≤ℚ nat greatest-loss → Thrust-near (available-thrust n e) (exact-available-thrust x y) 21
     unfolding exact-available-thrust
