@@ -1,0 +1,5 @@
+mod Step
+mod Accepted
+mod Kept
+mod Marks
+mod Chains
