@@ -1,6 +1,5 @@
 -- A value between two levels lies in every range in which both levels lie.
-use mathlib.Core.Path.{_≡_}
-use mathlib.Core.Logic.{_⊎_, inl, inr, _↔_}
+use mathlib.Core.Logic.{_⊎_, inl, inr}
 use Prim.Native.Nat.{ℕ, zero, suc, _-_, _*_, _/_, _≤_, _<_}
 use native.Mathlib.Nat.{div-le-of-le-mul, div-lt-iff-lt-mul, mul-le-mul-left}
 use native.Mathlib.Omega.{arith}

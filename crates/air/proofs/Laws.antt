@@ -1,19 +1,17 @@
 -- The laws of the bench day and the standard day.
 use mathlib.Core.Bool.{Bool, true, false, cond}
 use mathlib.Core.Path.{_≡_}
-use Prim.Native.Nat.{ℕ, _+_, _*_, _/_, _≤_, _<_}
+use Prim.Native.Nat.{ℕ, _+_, _/_, _<_}
 use native.Mathlib.Omega.{arith}
 use lib.Dec.{T, ltb, ltb→lt}
-use lib.IntN.{ℤ, pos, negsuc, natAbs}
-use lib.Signed.{_≤ℤ_}
+use lib.IntN.{ℤ, pos, natAbs}
 use Rattle.std.proofs.shelf.Signed.{ints}
 use Rattle.air.specs.Day.{AirLaws}
-use Rattle.air.specs.Between.{between}
 use Rattle.air.specs.Standard.{level, standard-density, standard-air, Counted}
 use Rattle.air.specs.Days.{bench-air}
 use Rattle.air.specs.declared.bench.Bench.{Bench}
 use Rattle.air.proofs.Between.{Inside, between-inside}
-use Rattle.air.proofs.Table.{level-bounds}
+use Rattle.air.proofs.Entries.{level-bounds}
 
 either-way : (P : ℤ → Type 0) (b : Bool) (x y : ℤ) → (T b → P x) → P y → P (cond b x y)
 either-way P true x y p q = p tt

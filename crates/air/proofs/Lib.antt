@@ -2,6 +2,6 @@ pub mod Answered
 pub mod Between
 mod Fits
 mod Every
-mod Table
+mod Entries
 mod Laws
 mod Worked

@@ -1,18 +1,18 @@
 -- The density that the code works out between two levels is the standard day's.
 use mathlib.Core.Bool.{true}
-use mathlib.Core.Path.{_≡_, ap, sym, _∙_, refl}
+use mathlib.Core.Path.{_≡_, _∙_}
 use Prim.Native.Nat.{ℕ, _+_, _*_, _/_, _≤_, _<_}
 use native.Mathlib.Omega.{arith}
 use lib.Dec.{T, ltb}
 use lib.IntN.{ℤ, pos, negsuc, natAbs}
-use lib.Signed.{_≤ℤ_, nonNeg}
+use lib.Signed.{nonNeg}
 use mir.Syntax.{w64}
 use mir.Val.{Fits, SFits, toZ, ofZ}
 use Rattle.std.proofs.shelf.Signed.{ints, toZ-ofZ, toZ-pos}
 use Rattle.std.proofs.shelf.Ways.{tells}
 use Rattle.air.specs.Between.{between}
 use Rattle.air.specs.Standard.{level, standard-density}
-use Rattle.air.proofs.Table.{level-bounds}
+use Rattle.air.proofs.Entries.{level-bounds}
 use Rattle.air.proofs.Laws.{standard-inside}
 use Rattle.air.proofs.Between.{Inside}
 

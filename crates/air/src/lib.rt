@@ -4,5 +4,6 @@ pub mod day;
 pub mod days;
 mod levels;
 pub mod standard;
+pub mod table;
 #[cfg(test)]
 mod tests;

@@ -11,8 +11,8 @@ unfolding exact-thrust-factor
 factor-near {rise} {e} {x} ctc2 h p n =
     near-weaken
     (near-≈ (≈-trans (nat-monus (10 ^ 9 + rise) fall) (max-≈ (≈-refl (nat 0)) (−-≈ (nat-+ (10 ^ 9) rise) (≈-refl (nat fall)))))
-     (≈-refl _)
-     (near-max-with (nat 0) (near-− (near-+ (near-same (≈-refl (nat (10 ^ 9))) (nat-≥0 0)) n) (near-floor (10 ^ 9 * h) ctc2 p))))
+    (≈-refl _)
+    (near-max-with (nat 0) (near-− (near-+ (near-same (≈-refl (nat (10 ^ 9))) (nat-≥0 0)) n) (near-floor (10 ^ 9 * h) ctc2 p))))
     (omega arith)
   where
     fall : ℕ

@@ -19,20 +19,20 @@ sample-jet =
       ctc2 = 50000;
       ctc3 = 1000000;
       fuel =
-        record {
-          cf1 = 70000000;
-          cf2 = 100000;
-          cf3 = 12000000;
-          cf4 = 100000;
-          «cf1_least» = omega arith;
-          «cf1_most» = omega arith;
-          «cf2_least» = omega arith;
-          «cf2_most» = omega arith;
-          «cf3_least» = omega arith;
-          «cf3_most» = omega arith;
-          «cf4_least» = omega arith;
-          «cf4_most» = omega arith;
-        };
+          record {
+            cf1 = 70000000;
+            cf2 = 100000;
+            cf3 = 12000000;
+            cf4 = 100000;
+            «cf1_least» = omega arith;
+            «cf1_most» = omega arith;
+            «cf2_least» = omega arith;
+            «cf2_most» = omega arith;
+            «cf3_least» = omega arith;
+            «cf3_most» = omega arith;
+            «cf4_least» = omega arith;
+            «cf4_most» = omega arith;
+          };
       «ctc1_least» = omega arith;
       «ctc1_most» = omega arith;
       «ctc2_least» = omega arith;
@@ -48,20 +48,20 @@ sample-turboprop =
       ctc2 = 30000;
       ctc3 = negsuc 999999;
       fuel =
-        record {
-          cf1 = 80000000;
-          cf2 = 70000;
-          cf3 = 10000000;
-          cf4 = 30000;
-          «cf1_least» = omega arith;
-          «cf1_most» = omega arith;
-          «cf2_least» = omega arith;
-          «cf2_most» = omega arith;
-          «cf3_least» = omega arith;
-          «cf3_most» = omega arith;
-          «cf4_least» = omega arith;
-          «cf4_most» = omega arith;
-        };
+          record {
+            cf1 = 80000000;
+            cf2 = 70000;
+            cf3 = 10000000;
+            cf4 = 30000;
+            «cf1_least» = omega arith;
+            «cf1_most» = omega arith;
+            «cf2_least» = omega arith;
+            «cf2_most» = omega arith;
+            «cf3_least» = omega arith;
+            «cf3_most» = omega arith;
+            «cf4_least» = omega arith;
+            «cf4_most» = omega arith;
+          };
       «ctc1_most» = omega arith;
       «ctc2_least» = omega arith;
       «ctc2_most» = omega arith;

@@ -12,19 +12,31 @@ pub(crate) fn ask_altitude(altitude: u64) -> Result<(), Refusal>
     ensures answer { λ r. ⌜ r ≡ cond (asked-altitude altitude) (Ok tt) (Err TooHigh) ⌝ }
     ensures within { λ r. ⌜ made r (λ _. altitude ≤ 60000) ⌝ }
 {
-    if altitude <= 60000 { Ok(()) } else { Err(Refusal::TooHigh) }
+    if altitude <= 60000 {
+        Ok(())
+    } else {
+        Err(Refusal::TooHigh)
+    }
 }
 
 pub(crate) fn ask_speed(speed: u64) -> Result<(), Refusal>
     ensures answer { λ r. ⌜ r ≡ cond (asked-speed speed) (Ok tt) (Err Speed) ⌝ }
     ensures within { λ r. ⌜ made r (λ _. (300 ≤ speed) × (speed ≤ 7000)) ⌝ }
 {
-    if speed >= 300 && speed <= 7000 { Ok(()) } else { Err(Refusal::Speed) }
+    if speed >= 300 && speed <= 7000 {
+        Ok(())
+    } else {
+        Err(Refusal::Speed)
+    }
 }
 
 pub(crate) fn ask_thrust(thrust: u64) -> Result<(), Refusal>
     ensures answer { λ r. ⌜ r ≡ cond (asked-thrust thrust) (Ok tt) (Err Flow) ⌝ }
     ensures within { λ r. ⌜ made r (λ _. thrust ≤ 10000000000) ⌝ }
 {
-    if thrust <= 10000000000 { Ok(()) } else { Err(Refusal::Flow) }
+    if thrust <= 10000000000 {
+        Ok(())
+    } else {
+        Err(Refusal::Flow)
+    }
 }

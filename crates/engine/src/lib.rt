@@ -5,7 +5,6 @@ pub mod examples;
 mod formulas;
 pub mod jet;
 pub mod kind;
-pub mod turboprop;
-
 #[cfg(test)]
 mod tests;
+pub mod turboprop;

@@ -92,60 +92,172 @@ fn most_turboprop() -> Turboprop {
     }
 }
 
+// Checks thrust, nominal flow and idle flow at an altitude in ft, a speed in 0.1 kt and a thrust in mN.
+fn answers<K: Kind>(
+    kind: &K,
+    at: (u64, u64, u64),
+    thrust: Result<u64, Refusal>,
+    nominal: Result<u64, Refusal>,
+    idle: Result<u64, Refusal>,
+) -> Result<(), Fail> {
+    check_eq(kind.thrust(at.0, at.1), thrust)?;
+    check_eq(kind.nominal(at.1, at.2), nominal)?;
+    check_eq(kind.idle(at.0), idle)
+}
+
 #[test]
 fn worked_figures() -> Result<(), Fail> {
-    let jet = sample();
-    check_eq(jet.thrust(30000, 4500), Ok(73500000))?;
-    check_eq(jet.nominal(4500, 73500000), Ok(74602500))?;
-    check_eq(jet.idle(30000), Ok(8400000))?;
-    let any = AnyKind::Jet(jet);
-    check_eq(any.thrust(30000, 4500), Ok(73500000))?;
-    check_eq(any.idle(30000), Ok(8400000))
+    answers(
+        &sample(),
+        (30000, 4500, 73500000),
+        Ok(73500000),
+        Ok(74602500),
+        Ok(8400000),
+    )?;
+    answers(
+        &AnyKind::Jet(sample()),
+        (30000, 4500, 73500000),
+        Ok(73500000),
+        Ok(74602500),
+        Ok(8400000),
+    )
 }
 
 #[test]
 fn refusals_in_order() -> Result<(), Fail> {
-    let jet = sample();
-    check_eq(jet.thrust(60001, 299), Err(Refusal::TooHigh))?;
-    check_eq(jet.thrust(60000, 299), Err(Refusal::Speed))?;
-    check_eq(jet.thrust(60000, 7001), Err(Refusal::Speed))?;
-    check_eq(jet.nominal(299, 10000000001), Err(Refusal::Speed))?;
-    check_eq(jet.nominal(7001, 0), Err(Refusal::Speed))?;
-    check_eq(jet.nominal(7000, 10000000001), Err(Refusal::Flow))?;
-    check_eq(jet.nominal(7000, 10000000000), Ok(11900000000))?;
-    check_eq(jet.idle(60001), Err(Refusal::TooHigh))?;
-    check_eq(most_jet().nominal(299, 0), Err(Refusal::Speed))?;
-    check_eq(most_jet().nominal(300, 0), Err(Refusal::Flow))
+    answers(
+        &sample(),
+        (60001, 299, 10000000001),
+        Err(Refusal::TooHigh),
+        Err(Refusal::Speed),
+        Err(Refusal::TooHigh),
+    )?;
+    answers(
+        &sample(),
+        (60000, 299, 10000000001),
+        Err(Refusal::Speed),
+        Err(Refusal::Speed),
+        Ok(4800000),
+    )?;
+    answers(
+        &sample(),
+        (60000, 7001, 0),
+        Err(Refusal::Speed),
+        Err(Refusal::Speed),
+        Ok(4800000),
+    )?;
+    answers(
+        &sample(),
+        (60001, 7000, 10000000001),
+        Err(Refusal::TooHigh),
+        Err(Refusal::Flow),
+        Err(Refusal::TooHigh),
+    )?;
+    answers(
+        &sample(),
+        (60000, 7000, 10000000000),
+        Ok(24000000),
+        Ok(11900000000),
+        Ok(4800000),
+    )?;
+    answers(
+        &most_jet(),
+        (0, 299, 0),
+        Err(Refusal::Speed),
+        Err(Refusal::Speed),
+        Ok(1000000000),
+    )?;
+    answers(
+        &most_jet(),
+        (0, 300, 0),
+        Ok(2000000000),
+        Err(Refusal::Flow),
+        Ok(1000000000),
+    )
 }
 
 #[test]
 fn jets_at_the_ends() -> Result<(), Fail> {
-    let least = least_jet();
-    check_eq(least.thrust(0, 300), Ok(100000))?;
-    check_eq(least.thrust(9999, 7000), Ok(10))?;
-    check_eq(least.thrust(60000, 300), Ok(0))?;
-    check_eq(least.nominal(300, 10000000000), Ok(130000000))?;
-    check_eq(least.nominal(7000, 10000000000), Ok(800000000))?;
-    check_eq(least.idle(9999), Ok(1))?;
-    check_eq(least.idle(60000), Ok(0))?;
-    let most = most_jet();
-    check_eq(most.thrust(9999, 300), Ok(2179959804))?;
-    check_eq(most.thrust(60000, 7000), Ok(9079926800))?;
-    check_eq(most.idle(0), Ok(1000000000))?;
-    check_eq(most.idle(60000), Ok(999399993))
+    answers(
+        &least_jet(),
+        (0, 300, 10000000000),
+        Ok(100000),
+        Ok(130000000),
+        Ok(10000),
+    )?;
+    answers(
+        &least_jet(),
+        (9999, 7000, 10000000000),
+        Ok(10),
+        Ok(800000000),
+        Ok(1),
+    )?;
+    answers(&least_jet(), (60000, 300, 0), Ok(0), Ok(0), Ok(0))?;
+    answers(
+        &most_jet(),
+        (0, 300, 0),
+        Ok(2000000000),
+        Err(Refusal::Flow),
+        Ok(1000000000),
+    )?;
+    answers(
+        &most_jet(),
+        (9999, 300, 0),
+        Ok(2179959804),
+        Err(Refusal::Flow),
+        Ok(999900009),
+    )?;
+    answers(
+        &most_jet(),
+        (60000, 7000, 10000000000),
+        Ok(9079926800),
+        Err(Refusal::Flow),
+        Ok(999399993),
+    )
 }
 
 #[test]
 fn turboprops_at_the_ends() -> Result<(), Fail> {
-    let least = least_turboprop();
-    check_eq(least.thrust(0, 300), Ok(0))?;
-    check_eq(least.nominal(300, 10000000000), Ok(2100000))?;
-    check_eq(least.nominal(999, 10000000000), Ok(9900))?;
-    check_eq(least.nominal(7000, 10000000000), Ok(0))?;
-    let most = most_turboprop();
-    check_eq(most.thrust(0, 300), Ok(4333300000))?;
-    check_eq(most.thrust(60000, 7000), Ok(1134284285))?;
-    check_eq(most.nominal(4000, 10000000000), Ok(39998399900))?;
-    check_eq(most.nominal(4001, 10000000000), Err(Refusal::Flow))?;
-    check_eq(most.idle(9999), Ok(999900009))
+    answers(
+        &least_turboprop(),
+        (0, 300, 10000000000),
+        Ok(0),
+        Ok(2100000),
+        Ok(10000),
+    )?;
+    answers(
+        &least_turboprop(),
+        (9999, 999, 10000000000),
+        Ok(0),
+        Ok(9900),
+        Ok(1),
+    )?;
+    answers(
+        &least_turboprop(),
+        (60000, 7000, 10000000000),
+        Ok(0),
+        Ok(0),
+        Ok(0),
+    )?;
+    answers(
+        &most_turboprop(),
+        (0, 300, 10000000000),
+        Ok(4333300000),
+        Ok(2999990900),
+        Ok(1000000000),
+    )?;
+    answers(
+        &most_turboprop(),
+        (9999, 4000, 10000000000),
+        Ok(1247497750),
+        Ok(39998399900),
+        Ok(999900009),
+    )?;
+    answers(
+        &most_turboprop(),
+        (60000, 4001, 10000000000),
+        Ok(1234938765),
+        Err(Refusal::Flow),
+        Ok(999399993),
+    )
 }

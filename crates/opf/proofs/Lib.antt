@@ -1,2 +1,12 @@
 mod LineEnds
 mod Runs
+mod Counts
+mod Forms
+mod Readings
+mod Drafts
+mod Files
+mod Rows
+mod Accepted
+mod Judged
+mod Configurations
+mod Complete

@@ -12,10 +12,11 @@ use Rattle.std.specs.shelf.Lists.{leading}
 use Rattle.std.proofs.shelf.Lists.{drop-more, drop-all}
 use mathlib.Core.Logic.{_⊎_, inl, inr, ⊎-elim}
 use Rattle.std.proofs.shelf.Ways.{tells}
-use Rattle.std.proofs.shelf.Tests.{eq-eqb, ne-eqb, both-ways, and-right, and-cases, and-parts, cases-bool}
+use Rattle.std.proofs.shelf.Tests.{eq-eqb, ne-eqb, both-ways, and-right, and-cases, and-parts, or-from, or-left, or-right, cases-bool}
 use Rattle.opf.specs.Text.{lines, onto, at-lf, every, printable}
 use Rattle.opf.specs.Fields.{other-than}
-use Rattle.opf.specs.LineEnds.{without-cr}
+use Rattle.opf.specs.LineEnds.{without-cr, line-end-byte}
+use Rattle.opf.specs.Files.{blank}
 
 -- a byte that is good at i
 pub every-more : (p : ℕ → Bool) (s : List ℕ) (i : ℕ) → i < length s → p (getD s i 0) ≡ true → every p (drop (i + 1) s) ≡ every p (drop i s)
@@ -125,3 +126,43 @@ empty-stays (b ∷ s) h = absurd (omega arith)
 
 pub line-cut : (s : List ℕ) (n : ℕ) (l : List ℕ) → n ≡ leading (other-than 10) s → leading (other-than 10) s < length s → l ≡ without-cr (take (n - 0) s) → lines s ≡ l ∷ lines (drop (n + 1) s)
 line-cut s n l e h p = rw (p, sub-zero, e) (line-ends s h)
+
+-- Nothing but line ends.
+
+blank-onto : (b : ℕ) (ls : List (List ℕ)) → blank (onto b ls) ≡ (eqb b 13 && blank ls)
+blank-onto b [] = ⊎-elim (λ t. rw t) (λ f. rw f) (cases-bool (eqb b 13))
+blank-onto b (l ∷ ls) = ⊎-elim (λ t. rw t) (λ f. rw f) (cases-bool (eqb b 13))
+
+lines-past : (b : ℕ) (s : List ℕ) → eqb b 10 ≡ false → (eqb b 13 && at-lf s) ≡ true → lines (b ∷ s) ≡ lines s
+lines-past b s f t = rw (t, f)
+
+lines-kept : (b : ℕ) (s : List ℕ) → eqb b 10 ≡ false → (eqb b 13 && at-lf s) ≡ false → lines (b ∷ s) ≡ onto b (lines s)
+lines-kept b s f g = rw (g, f)
+
+every-other : (b : ℕ) (s : List ℕ) → eqb b 10 ≡ false → every line-end-byte (b ∷ s) ≡ (eqb b 13 && every line-end-byte s)
+every-other b s f = rw f
+
+every-past : (b : ℕ) (s : List ℕ) → eqb b 13 ≡ true → every line-end-byte (b ∷ s) ≡ every line-end-byte s
+every-past b s t = let e : line-end-byte b ≡ true = or-right (eqb b 10) (eqb b 13) t in rw e
+
+pub blank-is : (s : List ℕ) → every line-end-byte s ≡ blank (lines s)
+blank-is [] = refl
+blank-is (b ∷ s) =
+    ⊎-elim
+    (λ t. rw t (blank-is s))
+    (λ f.
+    ⊎-elim
+    (λ t. every-past b s (and-parts (eqb b 13) (at-lf s) t .0) ∙ blank-is s ∙ ap blank (sym (lines-past b s f t)))
+    (λ g. every-other b s f ∙ ap (λ r. eqb b 13 && r) (blank-is s) ∙ sym (blank-onto b (lines s)) ∙ ap blank (sym (lines-kept b s f g)))
+    (cases-bool (eqb b 13 && at-lf s)))
+    (cases-bool (eqb b 10))
+
+pub line-end-stops : (s : List ℕ) (i : ℕ) → i < length s → (getD s i 0 ≡ 10 → ⊥) → (getD s i 0 ≡ 13 → ⊥) → every line-end-byte (drop i s) ≡ false
+line-end-stops s i h p q =
+    let e : line-end-byte (getD s i 0) ≡ false = or-from (eqb (getD s i 0) 10) (eqb (getD s i 0) 13) (ne-eqb (getD s i 0) 10 p) (ne-eqb (getD s i 0) 13 q) in
+    every-stops line-end-byte s i h e
+
+pub line-end-more : (s : List ℕ) (i : ℕ) → i < length s → (getD s i 0 ≡ 10) ⊎ (getD s i 0 ≡ 13) → every line-end-byte (drop (i + 1) s) ≡ every line-end-byte (drop i s)
+line-end-more s i h p =
+    let e : line-end-byte (getD s i 0) ≡ true = ⊎-elim (λ x. or-left (eqb (getD s i 0) 10) (eqb (getD s i 0) 13) (eq-eqb (getD s i 0) 10 x)) (λ x. or-right (eqb (getD s i 0) 10) (eqb (getD s i 0) 13) (eq-eqb (getD s i 0) 13 x)) p in
+    every-more line-end-byte s i h e

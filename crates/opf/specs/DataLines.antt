@@ -25,7 +25,7 @@ use Rattle.aircraft.specs.Drafts.{no-row}
 use Rattle.aircraft.specs.Words.{engine-named, configuration-named, configuration-word}
 use Rattle.opf.specs.declared.number.Number.{Number}
 use Rattle.opf.specs.declared.number.Quantity.{Quantity}
-use Rattle.opf.specs.Faults.{unless, first-of}
+use Rattle.opf.specs.Faults.{unless, or-else, first-of}
 use Rattle.opf.specs.Fields.{field}
 use Rattle.opf.specs.Numbers.{number-of, natural-in, signed-in}
 use Rattle.opf.specs.Quantities as quantity
@@ -124,9 +124,10 @@ abbrev pub row-from : Option Fields → DraftRow
 row-from None = no-row
 row-from (Some fs) = row-of fs
 
-abbrev pub new-fault : ℕ → List Fields → Option Configuration → Option Fault
-new-fault n earlier None = Some (fault.Word n 2)
-new-fault n earlier (Some c) = unless (not (isSome (line-naming c (configuration-lines earlier)))) (fault.Word n 2)
+-- a known word, of a configuration that did not come before
+abbrev pub new-fault : ℕ → (Configuration → Bool) → Option Configuration → Option Fault
+new-fault n came None = Some (fault.Word n 2)
+new-fault n came (Some c) = unless (not (came c)) (fault.Word n 2)
 
 abbrev pub row-faults : ℕ → Fields → List (Option Fault)
 row-faults n fs =
@@ -135,8 +136,8 @@ row-faults n fs =
     ∷ natural-fault n fs (length fs - 1) quantity.drag
     ∷ []
 
-abbrev pub configuration-faults : ℕ → List Fields → Fields → List (Option Fault)
-configuration-faults n earlier fs = count-fault n fs 6 ∷ new-fault n earlier (configuration-of fs) ∷ row-faults n fs
+abbrev pub configuration-faults : ℕ → (Configuration → Bool) → Fields → List (Option Fault)
+configuration-faults n came fs = count-fault n fs 6 ∷ new-fault n came (configuration-of fs) ∷ row-faults n fs
 
 -- Data line 16: CTc1 to CTc5, the third by engine.
 
@@ -203,22 +204,28 @@ two-faults n fs q r = count-fault n fs 2 ∷ natural-fault n fs 1 q ∷ natural-
 abbrev pub nth-line : List Fields → ℕ → Fields
 nth-line data-lines k = getD data-lines (k - 1) []
 
--- the faults of the data line that comes k-th, after the earlier ones
-abbrev pub faults-at : ℕ → ℕ → List Fields → Fields → List (Option Fault)
-faults-at k n earlier fs =
+-- the faults of the data line that comes k-th, by the engine and the configurations that came before
+abbrev pub faults-at : ℕ → ℕ → EngineType → (Configuration → Bool) → Fields → List (Option Fault)
+faults-at k n e came fs =
     cond (eqb k 1) (engine-faults n fs)
     (cond (eqb k 2) (masses-faults n fs)
     (cond (eqb k 3) (one-faults n fs 3 quantity.ceiling)
     (cond (eqb k 4) (one-faults n fs 2 quantity.wing-area)
-    (cond (leb 5 k && leb k 9) (configuration-faults n earlier fs)
+    (cond (leb 5 k && leb k 9) (configuration-faults n came fs)
     (cond (eqb k 13) (one-faults n fs 3 quantity.drag)
-    (cond (eqb k 16) (thrust-faults (engine-of (nth-line earlier 1)) n fs)
+    (cond (eqb k 16) (thrust-faults e n fs)
     (cond (eqb k 17) (descent-faults n fs)
     (cond (eqb k 19) (two-faults n fs quantity.cf1 quantity.cf2)
     (cond (eqb k 20) (two-faults n fs quantity.cf3 quantity.cf4)
     (cond (eqb k 21) (one-faults n fs 1 quantity.cruise-factor)
     []))))))))))
 
--- the first fault of a data line; there are at most 22
+-- whether one of the earlier data lines names c
+abbrev pub came : List Fields → Configuration → Bool
+came earlier c = isSome (line-naming c (configuration-lines earlier))
+
+-- the first fault of a data line after the earlier ones; there are at most 22
 abbrev pub data-fault : ℕ → List Fields → Fields → Option Fault
-data-fault n earlier fs = first-of (unless (leb (length earlier + 1) 22) (fault.DataLines n) ∷ faults-at (length earlier + 1) n earlier fs)
+data-fault n earlier fs =
+    or-else (unless (leb (length earlier + 1) 22) (fault.DataLines n))
+    (first-of (faults-at (length earlier + 1) n (engine-of (nth-line earlier 1)) (came earlier) fs))

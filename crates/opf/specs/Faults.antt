@@ -1,4 +1,5 @@
 -- The first of several faults, and a result that it decides.
+use mathlib.Core.Path.{_≡_}
 use mathlib.Core.Bool.{Bool, cond}
 use mathlib.Core.List.{List, [], _∷_}
 use Rattle.std.specs.declared.option.Option.{Option}
@@ -23,3 +24,8 @@ first-of (f ∷ fs) = or-else f (first-of fs)
 abbrev pub judge : {X : Type 0} → Option Fault → X → Result X Fault
 judge None x = Ok x
 judge (Some f) x = Err f
+
+-- the same, read from the result
+abbrev pub Judges : {X : Type 0} → Result X Fault → Option Fault → X → Type 0
+Judges (Ok x) o v = (o ≡ None) × (x ≡ v)
+Judges (Err f) o v = o ≡ Some f

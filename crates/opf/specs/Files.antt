@@ -1,8 +1,8 @@
 -- A whole file: its data lines, its first fault, and the plain record that it gives.
-use mathlib.Core.Bool.{Bool, true, cond, _&&_}
+use mathlib.Core.Bool.{Bool, true, false, cond, _&&_}
 use mathlib.Core.List.{List, [], _∷_, _++_}
 use Prim.Native.Nat.{ℕ, _+_}
-use lib.Dec.{eqb, leb}
+use lib.Dec.{leb}
 use lib.ListN.{length}
 use Rattle.std.specs.declared.option.Option.{Option}
 use Rattle.std.specs.declared.option.Option.the-variants.{Some, None}
@@ -13,7 +13,7 @@ use Rattle.aircraft.specs.declared.words.Configuration.the-variants as flaps
 use Rattle.aircraft.specs.declared.draft.Draft.{Draft}
 use Rattle.opf.specs.Faults.{unless, or-else, judge}
 use Rattle.opf.specs.Text.{lines, every, text-fault, line-of, Line, comment, data-line, last}
-use Rattle.opf.specs.Fields.{fields}
+use Rattle.opf.specs.Fields.{fields, is-byte}
 use Rattle.opf.specs.DataLines.{Fields, nth-line, natural, engine-of, masses-of, row-from, line-naming, configuration-lines, thrust-of, descent-of, consumption-of, idle-of, data-fault}
 use Rattle.opf.specs.Quantities as quantity
 
@@ -24,30 +24,39 @@ by-line (Some (data-line s)) c d e u = d s
 by-line (Some (last s)) c d e u = e
 by-line None c d e u = u
 
+-- the fields of a data line; no other line has any
+abbrev pub own-fields : List ℕ → List Fields
+own-fields l = by-line (line-of l) [] (λ s. fields s ∷ []) [] []
+
+abbrev pub is-end : List ℕ → Bool
+is-end l = by-line (line-of l) false (λ s. false) true false
+
 -- the fields of the data lines, in their order
 abbrev pub data-lines : List (List ℕ) → List Fields
 data-lines [] = []
-data-lines (l ∷ ls) = by-line (line-of l) (data-lines ls) (λ s. fields s ∷ data-lines ls) (data-lines ls) (data-lines ls)
+data-lines (l ∷ ls) = own-fields l ++ data-lines ls
+
+-- the fault of line n by itself, after the earlier data lines; the end comes after the 22nd
+abbrev pub line-fault : ℕ → List Fields → List ℕ → Option Fault
+line-fault n earlier l =
+    or-else (text-fault n l)
+    (by-line (line-of l)
+    None
+    (λ s. data-fault n earlier (fields s))
+    (unless (leb 22 (length earlier)) (fault.DataLines n))
+    (Some (fault.LineStart n)))
 
 -- lines of CR alone
 abbrev pub blank : List (List ℕ) → Bool
 blank [] = true
-blank (l ∷ ls) = every (eqb 13) l && blank ls
+blank (l ∷ ls) = every (is-byte 13) l && blank ls
 
--- the end comes after the 22nd data line, and nothing but line ends after it
-abbrev pub end-fault : ℕ → List Fields → List (List ℕ) → Option Fault
-end-fault n earlier after = or-else (unless (leb 22 (length earlier)) (fault.DataLines n)) (unless (blank after) (fault.AfterEnd n))
-
--- the first fault of the lines from line n on, after the earlier data lines
+-- the first fault of the lines from line n on, after the earlier data lines; nothing but line ends follows the end
 abbrev pub lines-fault : ℕ → List Fields → List (List ℕ) → Option Fault
 lines-fault n earlier [] = Some fault.NoEnd
 lines-fault n earlier (l ∷ ls) =
-    or-else (text-fault n l)
-    (by-line (line-of l)
-    (lines-fault (n + 1) earlier ls)
-    (λ s. or-else (data-fault n earlier (fields s)) (lines-fault (n + 1) (earlier ++ (fields s ∷ [])) ls))
-    (end-fault n earlier ls)
-    (Some (fault.LineStart n)))
+    or-else (line-fault n earlier l)
+    (cond (is-end l) (unless (blank ls) (fault.AfterEnd n)) (lines-fault (n + 1) (earlier ++ own-fields l) ls))
 
 abbrev pub size-fault : List ℕ → Option Fault
 size-fault text = unless (leb (length text) 32768) fault.FileSize

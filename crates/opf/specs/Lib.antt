@@ -1,9 +1,15 @@
 pub mod Faults
 pub mod Text
 pub mod LineEnds
+pub mod Lines
 pub mod Fields
 pub mod Runs
 pub mod Numbers
+pub mod Counts
 pub mod Quantities
 pub mod DataLines
+pub mod Steps
 pub mod Files
+pub mod Progress
+pub mod Records
+pub mod Printed

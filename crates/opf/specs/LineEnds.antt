@@ -1,5 +1,5 @@
 -- How the code's tokens are read, and a line without a CR at its end.
-use mathlib.Core.Bool.{cond}
+use mathlib.Core.Bool.{Bool, cond, _||_}
 use mathlib.Core.List.{List, [], _∷_}
 use Prim.Native.Nat.{ℕ}
 use lib.Dec.{eqb}
@@ -20,5 +20,6 @@ without-cr [] = []
 without-cr (b ∷ []) = cond (eqb b 13) [] (b ∷ [])
 without-cr (b ∷ c ∷ s) = b ∷ without-cr (c ∷ s)
 
-abbrev pub unit : Unit {0}
-unit = tt
+-- LF or CR
+abbrev pub line-end-byte : ℕ → Bool
+line-end-byte b = eqb b 10 || eqb b 13

@@ -1,9 +1,9 @@
 -- The number that a field prints, and its value as a whole count of a unit.
 use mathlib.Core.Bool.{Bool, true, false, cond, not, _&&_, _||_}
 use mathlib.Core.List.{List, [], _∷_}
-use Prim.Native.Nat.{ℕ, zero, suc, _+_, _-_, _*_, _/_, _%_, _^_}
+use Prim.Native.Nat.{ℕ, _+_, _-_, _*_, _/_, _%_, _^_}
 use lib.Dec.{eqb, leb}
-use lib.IntN.{ℤ, pos, negsuc}
+use lib.IntN.{ℤ, pos, _-ℤ_}
 use lib.ListN.{length, take, drop, getD}
 use Rattle.std.specs.declared.option.Option.{Option}
 use Rattle.std.specs.declared.option.Option.the-variants.{Some, None}
@@ -47,12 +47,12 @@ raising u x = u + cond (x .lowered) 0 (x .exponent)
 abbrev pub lowering : Number → ℕ
 lowering x = 5 + cond (x .lowered) (x .exponent) 0
 
--- that quotient, where it is whole
-unfoldable pub whole-count : ℕ → Number → Option ℕ
-whole-count u x =
-    cond (eqb ((x .digits * 10 ^ raising u x) % (10 ^ lowering x)) 0)
-    (Some ((x .digits * 10 ^ raising u x) / (10 ^ lowering x)))
-    None
+-- d × 10 ^ up / 10 ^ down, where that is whole
+unfoldable pub fixed-point : ℕ → ℕ → ℕ → Option ℕ
+fixed-point d up down = cond (eqb ((d * 10 ^ up) % (10 ^ down)) 0) (Some ((d * 10 ^ up) / (10 ^ down))) None
+
+abbrev pub whole-count : ℕ → Number → Option ℕ
+whole-count u x = fixed-point (x .digits) (raising u x) (lowering x)
 
 -- a count within its range; only zero may have a minus
 abbrev pub within : Quantity → Bool → ℕ → Bool
@@ -68,18 +68,13 @@ natural-from q m (Some v) = kept (within q m v) v
 unfoldable pub natural-in : Quantity → Number → Option ℕ
 natural-in q x = natural-from q (x .negative) (whole-count (q .decimals) x)
 
--- minus v, or v
-abbrev pub minus : ℕ → ℤ
-minus zero = pos 0
-minus (suc v) = negsuc v
-
-abbrev pub signed : Bool → ℕ → ℤ
-signed b v = cond b (minus v) (pos v)
+abbrev pub signed-value : Bool → ℕ → ℤ
+signed-value negative v = cond negative (pos 0 -ℤ pos v) (pos v)
 
 -- a count of either sign, at most `high` in size
 abbrev pub signed-from : Quantity → Bool → Option ℕ → Option ℤ
 signed-from q m None = None
-signed-from q m (Some v) = kept (leb v (q .high)) (signed m v)
+signed-from q m (Some v) = kept (leb v (q .high)) (signed-value m v)
 
 unfoldable pub signed-in : Quantity → Number → Option ℤ
 signed-in q x = signed-from q (x .negative) (whole-count (q .decimals) x)

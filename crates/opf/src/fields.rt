@@ -18,7 +18,8 @@ pub(crate) struct Field<'a> {
 
 // The part of a data line that holds its fields.
 pub(crate) fn up_to_slash(rest: &[u8]) -> &[u8]
-    ensures { λ r. ⌜ now r ≡ before-slash (now (rest .entry)) ⌝ }
+    ensures value { λ r. ⌜ now r ≡ before-slash (now (rest .entry)) ⌝ }
+    ensures shorter { λ r. ⌜ length (now r) ≤ length (now (rest .entry)) ⌝ }
 {
     let n = up_to(rest, b'/');
     &rest[0..n]

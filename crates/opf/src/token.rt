@@ -1,8 +1,9 @@
 // What a line is, and its fault as text.
 ghost use mathlib.Core.Path.{_≡_};
 ghost use Rattle.opf.specs.Text.{every, printable, text-fault, line-of};
-ghost use Rattle.opf.specs.Faults.{judge};
-ghost use Rattle.opf.specs.LineEnds.{line-seen, unit};
+ghost use Rattle.opf.specs.Faults.{Judges};
+ghost use Rattle.opf.specs.Lines.{done};
+ghost use Rattle.opf.specs.LineEnds.{line-seen};
 use refusal::fault::Fault;
 
 // A line by its first two letters, with what follows them.
@@ -26,7 +27,7 @@ fn is_printable(line: &[u8]) -> bool
 
 // Judges the line's length and bytes.
 pub(crate) fn check_text(line: &[u8], number: u32) -> Result<(), Fault>
-    ensures { λ r. ⌜ r ≡ judge (text-fault number (now (line .entry))) unit ⌝ }
+    ensures { λ r. ⌜ Judges r (text-fault number (now (line .entry))) done ⌝ }
 {
     if line.len() > 160 || !is_printable(line) {
         return Err(Fault::LineText { line: number });

@@ -10,20 +10,20 @@ unfolding exact-thrust-factor exact-flow-of exact-idle-flow exact-jet-rise exact
 returns c =
     record {
       jet =
-        record {
-          thrust = refl;
-          exact-thrust = record { eq = refl };
-          nominal = refl;
-          exact-nominal = record { eq = refl };
-          half-nominal = record { eq = refl };
-        };
+          record {
+            thrust = refl;
+            exact-thrust = record { eq = refl };
+            nominal = refl;
+            exact-nominal = record { eq = refl };
+            half-nominal = record { eq = refl };
+          };
       turboprop =
-        record {
-          thrust = refl;
-          exact-thrust = record { eq = refl };
-          nominal = refl;
-          exact-nominal = record { eq = refl };
-          idle = refl;
-          exact-idle = record { eq = refl };
-        };
+          record {
+            thrust = refl;
+            exact-thrust = record { eq = refl };
+            nominal = refl;
+            exact-nominal = record { eq = refl };
+            idle = refl;
+            exact-idle = record { eq = refl };
+          };
     }

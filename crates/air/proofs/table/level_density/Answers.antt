@@ -1,7 +1,7 @@
 use mathlib.Core.Path.{refl}
 use Rattle.air.specs.Standard.{table}
-use Rattle.air.proofs.Table.{level-bounds}
-use Rattle.air.proofs.standard.level_density.Needs as need
+use Rattle.air.proofs.Entries.{level-bounds}
+use Rattle.air.proofs.table.level_density.Needs as need
 
 pub returns : need.returns
 unfolding table
