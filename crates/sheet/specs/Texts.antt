@@ -1,10 +1,11 @@
--- The text of an answer, byte for byte.
+-- The text of an answer and of a refused aircraft file, byte for byte.
 use mathlib.Core.Bool.{Bool, cond}
 use mathlib.Core.List.{List, [], _∷_, _++_}
 use Prim.Native.Nat.{ℕ}
 use lib.Chars.{codes}
 use Rattle.std.specs.Written.{decimal}
-use Rattle.refusal.specs.Numbers.{refusal-number}
+use Rattle.refusal.specs.declared.fault.Fault.{Fault}
+use Rattle.refusal.specs.Numbers.{refusal-number, fault-number, fault-line, fault-field}
 use Rattle.aircraft.specs.Words.{configuration-word}
 use Rattle.flight.specs.declared.reading.Reading.{Reading}
 use Rattle.leg.specs.declared.flown.Flown.{Flown}
@@ -34,3 +35,7 @@ answer-text (answer.Uplift r) = codes "uplift " ++ (figures-text r ++ (10 ∷ []
 answer-text (answer.Jettison r) = codes "jettison " ++ (figures-text r ++ (10 ∷ []))
 answer-text (answer.Touchdown r) = codes "touchdown " ++ (figures-text r ++ (10 ∷ []))
 answer-text (answer.No e) = codes "no " ++ (decimal (refusal-number e) ++ (10 ∷ []))
+
+-- number, line and field
+abbrev pub fault-text : Fault → List ℕ
+fault-text f = codes "no " ++ (decimal (fault-number f) ++ (32 ∷ (decimal (fault-line f) ++ (32 ∷ (decimal (fault-field f) ++ (10 ∷ []))))))

@@ -5,6 +5,7 @@ pub mod form;
 pub mod forms;
 pub mod answer;
 pub mod show;
+pub mod fault;
 pub mod sheet;
 mod calls;
 pub mod line;
