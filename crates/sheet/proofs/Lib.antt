@@ -1,0 +1,3 @@
+mod Digits
+mod Printable
+mod Words
