@@ -188,9 +188,12 @@ def main():
                 text += f"  {printed // 10:>5}.{printed % 10}  {'-' if apart < 0 else '+'}{kilograms(abs(apart))}"
                 compared += 1
                 near += abs(apart) <= 200
-                if abs(apart) > worst[0]:
+                if abs(apart) >= worst[0]:
                     worst = (abs(apart), row[0], name)
             print(text)
+    if compared == 0:
+        print("compared 0")
+        return
     print(f"compared {compared}, within 0.200 of the printed flow {near}")
     print(f"worst difference {kilograms(worst[0])}, at FL {worst[1]} in {worst[2]}")
 

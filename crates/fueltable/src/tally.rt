@@ -6,7 +6,7 @@ use std::fmt;
 // The farthest that a computed flow may lie from the printed one, in g/min.
 const ALLOWED: u64 = 200;
 
-// How many flows were compared, how many of them are near enough, and where the worst difference is, in g/min.
+// How many flows were compared, how many of them are near enough, and where the worst difference was last met, in g/min.
 #[derive(Clone, Copy)]
 pub(crate) struct Tally {
     compared: u64,
@@ -30,7 +30,7 @@ impl Tally {
         if difference <= ALLOWED {
             self.near = self.near.saturating_add(1);
         }
-        if difference > self.worst {
+        if difference >= self.worst {
             self.worst = difference;
             self.level = level;
             self.column = column;
@@ -40,6 +40,9 @@ impl Tally {
 
 pub(crate) impl fmt::Display for Tally as TallyDisplay {
     fn fmt<W: fmt::Write>(&self, f: &mut fmt::Formatter<W>) -> fmt::Result {
+        if self.compared == 0 {
+            return write!(f, "compared 0\n");
+        }
         let compared = self.compared;
         let near = self.near;
         let whole = self.worst / 1000;
