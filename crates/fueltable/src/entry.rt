@@ -1,4 +1,6 @@
 // An entry of the table: a flow as computed and as printed.
+ghost use mathlib.Core.Path.{_≡_};
+ghost use Rattle.fueltable.specs.Table.{difference-of};
 use crate::column::Column;
 use crate::row::Row;
 use aircraft::named::ConfigurationDisplay;
@@ -26,7 +28,9 @@ impl Entry {
     }
 
     // How far the flow is from the printed one, in g/min.
-    pub(crate) fn difference(&self) -> Option<u64> {
+    pub(crate) fn difference(&self) -> Option<u64>
+        ensures { λ r. ⌜ r ≡ difference-of (now (self .entry) .outcome) (now (self .entry) .printed) ⌝ }
+    {
         match (self.outcome, self.printed) {
             (Ok(flown), Some(tenths)) => Some((flown.flow / 1000).abs_diff(tenths as u64 * 100)),
             _ => None,

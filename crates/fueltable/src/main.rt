@@ -1,6 +1,7 @@
 // Prints the fuel flows of an aircraft beside those of a performance table, level by level.
 mod column;
 mod entry;
+mod legs;
 mod row;
 mod tally;
 
