@@ -8,4 +8,10 @@ pub(crate) enum Column {
     Descent,
 }
 
-pub(crate) const COLUMNS: [Column; 5] = [Column::Low, Column::Nominal, Column::High, Column::Climb, Column::Descent];
+pub(crate) const COLUMNS: [Column; 5] = [
+    Column::Low,
+    Column::Nominal,
+    Column::High,
+    Column::Climb,
+    Column::Descent,
+];

@@ -24,7 +24,13 @@ impl Entry {
     pub(crate) fn new(aircraft: &Aircraft, row: &Row, column: Column) -> Option<Entry> {
         let speed = column.speed(row)?;
         let outcome = column.flown(aircraft, row, speed);
-        Some(Entry { level: row.level, column, speed, outcome, printed: column.printed(row) })
+        Some(Entry {
+            level: row.level,
+            column,
+            speed,
+            outcome,
+            printed: column.printed(row),
+        })
     }
 
     // How far the flow is from the printed one, in g/min.
@@ -46,7 +52,10 @@ pub(crate) impl fmt::Display for Entry as EntryDisplay {
         let tenth = self.speed % 10;
         write!(f, "FL{level:>4}  {name:<14}  {knots:>3}.{tenth}")?;
         match self.outcome {
-            Ok(flown) => write!(f, "{}", Compared { flown, printed: self.printed }),
+            Ok(flown) => {
+                let compared = Compared { flown, printed: self.printed };
+                write!(f, "{compared}")
+            }
             Err(refusal) => {
                 let number = refusal.number();
                 write!(f, "  no {number}")
@@ -92,6 +101,9 @@ impl fmt::Display for Printed as PrintedDisplay {
         let far = self.grams.abs_diff(expected);
         let kilograms = far / 1000;
         let thousandths = far % 1000;
-        write!(f, "  {whole:>5}.{tenth}  {sign}{kilograms}.{thousandths:03}")
+        write!(
+            f,
+            "  {whole:>5}.{tenth}  {sign}{kilograms}.{thousandths:03}"
+        )
     }
 }

@@ -64,12 +64,24 @@ impl Column {
     }
 
     // A leg of one second on the standard day. A flight leaves the stand by a climb, so one second of it comes first.
-    pub(crate) fn flown(self, aircraft: &Aircraft, row: &Row, speed: u32) -> Result<Flown, Refusal> {
+    pub(crate) fn flown(
+        self,
+        aircraft: &Aircraft,
+        row: &Row,
+        speed: u32,
+    ) -> Result<Flown, Refusal> {
         let zero_fuel = aircraft.masses.minimum;
         let fuel = self.mass(aircraft).saturating_sub(zero_fuel);
         let altitude = row.level as u64 * 100;
         let calibrated = row.calibrated as u64;
-        let mut flight = Flight::start(*aircraft, AnyKind::of(aircraft), Standard, zero_fuel, fuel, None)?;
+        let mut flight = Flight::start(
+            *aircraft,
+            AnyKind::of(aircraft),
+            Standard,
+            zero_fuel,
+            fuel,
+            None,
+        )?;
         let climb = flight.leg(1, altitude, row.climb as u64, calibrated, 1)?;
         match self {
             Column::Climb => Ok(climb),

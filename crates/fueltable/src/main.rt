@@ -34,13 +34,24 @@ fn print_heading(rt: &LibcRuntime, aircraft: &Aircraft) -> io::Result<()> {
     let low = Column::Low.mass(aircraft) / 1000;
     let nominal = Column::Nominal.mass(aircraft) / 1000;
     let high = Column::High.mass(aircraft) / 1000;
-    println!(rt, "masses in kg: low {low}, nominal {nominal}, high {high}")?;
+    println!(
+        rt,
+        "masses in kg: low {low}, nominal {nominal}, high {high}"
+    )?;
     println!(rt, "speeds in kt, flows in kg/min")?;
-    println!(rt, " level  phase           speed      computed  printed   apart")
+    println!(
+        rt,
+        " level  phase           speed      computed  printed   apart"
+    )
 }
 
 // A line for each column in which the row has a speed.
-fn print_row(rt: &LibcRuntime, aircraft: &Aircraft, line: &str, tally: &mut Tally) -> io::Result<()> {
+fn print_row(
+    rt: &LibcRuntime,
+    aircraft: &Aircraft,
+    line: &str,
+    tally: &mut Tally,
+) -> io::Result<()> {
     let Some(row) = row_of(line) else {
         return println!(rt, "no row: {line}");
     };

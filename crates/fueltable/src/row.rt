@@ -18,11 +18,13 @@ pub(crate) struct Row {
 
 // A whole number, or one with a point and one digit behind it, in tenths.
 fn tenths(word: &str) -> Option<u32> {
-    match word.split_once('.') {
-        Some((whole, tenth)) if tenth.len() == 1 => Some(whole.parse::<u16>().ok()? as u32 * 10 + tenth.parse::<u8>().ok()? as u32),
-        Some(_) => None,
-        None => Some(word.parse::<u16>().ok()? as u32 * 10),
+    let Some((whole, tenth)) = word.split_once('.') else {
+        return Some(word.parse::<u16>().ok()? as u32 * 10);
+    };
+    if tenth.len() != 1 {
+        return None;
     }
+    Some(whole.parse::<u16>().ok()? as u32 * 10 + tenth.parse::<u8>().ok()? as u32)
 }
 
 // The next word as a figure, or as a hyphen in place of one.
@@ -50,5 +52,16 @@ pub(crate) fn row_of(line: &str) -> Option<Row> {
     if words.next().is_some() {
         return None;
     }
-    Some(Row { level, cruise, low, nominal, high, climb, climbing, descent, calibrated, descending })
+    Some(Row {
+        level,
+        cruise,
+        low,
+        nominal,
+        high,
+        climb,
+        climbing,
+        descent,
+        calibrated,
+        descending,
+    })
 }

@@ -18,7 +18,13 @@ pub(crate) struct Tally {
 
 impl Tally {
     pub(crate) fn new() -> Tally {
-        Tally { compared: 0, near: 0, worst: 0, level: 0, column: Column::Low }
+        Tally {
+            compared: 0,
+            near: 0,
+            worst: 0,
+            level: 0,
+            column: Column::Low,
+        }
     }
 
     // Counts a difference in g/min. None that was counted is greater than the worst.
@@ -49,7 +55,13 @@ pub(crate) impl fmt::Display for Tally as TallyDisplay {
         let thousandths = self.worst % 1000;
         let level = self.level;
         let name = self.column.name();
-        write!(f, "compared {compared}, within 0.200 of the printed flow {near}\n")?;
-        write!(f, "worst difference {whole}.{thousandths:03}, at FL {level} in {name}\n")
+        write!(
+            f,
+            "compared {compared}, within 0.200 of the printed flow {near}\n"
+        )?;
+        write!(
+            f,
+            "worst difference {whole}.{thousandths:03}, at FL {level} in {name}\n"
+        )
     }
 }
