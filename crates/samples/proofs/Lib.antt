@@ -1,1 +1,2 @@
-pub mod Worked
+mod Exists
+mod Worked

@@ -1,13 +1,13 @@
 -- The worked figures: by the equations of the sample jet and its day, each one computes.
-use mathlib.Core.Path.{_≡_, refl}
-use Prim.Native.Nat.{ℕ}
+use mathlib.Core.Path.{refl}
 use Rattle.aircraft.specs.declared.record.Aircraft.{Aircraft}
 use Rattle.air.specs.declared.bench.Bench.{Bench}
 use Rattle.opf.specs.Numbers.{number-of, fixed-point, natural-in, signed-in}
 use Rattle.opf.specs.DataLines.{natural-fault, signed-fault}
 use Rattle.samples.specs.SampleJet.{Sample-jet}
 use Rattle.samples.specs.SampleSheet.{Sample-bench, sample-setting, Sample-sheet}
-use Rattle.samples.specs.Worked.{Odd-ctc3, Jet-figures, Worked-figures}
+use Rattle.samples.specs.Worked.{Jet-figures, Worked-figures}
+use Rattle.samples.proofs.Exists.{sample-exists}
 
 jet-figures : (a : Aircraft) → Sample-jet a → Jet-figures a
 jet-figures a s =
@@ -47,4 +47,5 @@ worked =
       between-levels = refl;
       jet = jet-figures;
       sheet = sample-sheet;
+      exists = sample-exists;
     }

@@ -48,6 +48,13 @@ pub record Jet-figures (a : Aircraft) : Type 0 where
   pub too-slow-for-approach : Descends-in a flaps.Landing 2999 159
   pub approach-enough : Descends-in a flaps.Approach 2999 160
 
+-- what is said of every sample jet and bench is said of something
+pub record Sample-exists : Type 0 where
+  pub aircraft : Aircraft
+  pub bench : Bench
+  pub is-jet : Sample-jet aircraft
+  pub is-bench : Sample-bench bench
+
 pub record Worked-figures : Type 0 where
   pub whole : bound (number-of (codes ".14000E+03")) (whole-count 0) ≡ Some 140
   -- in 0.001 kt
@@ -59,3 +66,4 @@ pub record Worked-figures : Type 0 where
   pub between-levels : between (pos 122500) (pos 118000) 0 1000 333 ≡ pos 121001
   pub jet : (a : Aircraft) → Sample-jet a → Jet-figures a
   pub sheet : (a : Aircraft) (b : Bench) → Sample-jet a → Sample-bench b → Sample-sheet (sample-setting a b)
+  pub exists : Sample-exists
