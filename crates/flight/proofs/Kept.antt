@@ -28,7 +28,7 @@ use Rattle.leg.specs.Nearness.{leg-rate, Accepted, Burn-near, Burn-rises, Burn-
 use Rattle.flight.specs.declared.status.State.{State}
 use Rattle.flight.specs.declared.states.Call.the-variants as call
 use Rattle.flight.specs.Calls.{Setting, Start, in-mg, starting-mass, starting-reserve, Named-call, Leg, Uplift, Jettison, Touchdown, Answer, Event}
-use Rattle.flight.specs.Book.{told, by-phase, book-burn, book-mass, leg-figure, allowed}
+use Rattle.flight.specs.Book.{told, by-phase, book-burn, book-mass, allowance, allowed}
 use Rattle.flight.specs.States.{next-state}
 use Rattle.flight.specs.Accounts.{Account, mass-of, changed, unless, and-then, start-outcome, start-grams, first-account, most-seconds, Done, Outcome, answered, left-by, silent, leg-fuelled, leg-taken, some-grams, outcome}
 use Rattle.flight.specs.Claims.{put-in, thrown-out, burned-by, summed}
@@ -148,7 +148,7 @@ begun-in-step rate w s l q =
 -- The chain, at any rate that covers the error of a leg and is at most 100 mg a second.
 
 module _ (near : Burn-near) (rises : Burn-rises) (gains : Burn-gains) (rate : Phase → ℕ) (covers : (p : Phase) → leg-rate p ≤ rate p) (modest : (p : Phase) → rate p ≤ 100) (w : Setting) (kind : KindLaws (w .engine)) (day : AirLaws (w .air)) (s : Start) (es : List Event) (l : Account) (before : In-step rate w s es l) where
-  close-leg : (n : ℕ) (x : Figures) (d : Done Flown) (f : Leg-accepted w l n x d) → Near (nat (mass-of l - d .answer .burn)) (book-mass w s (map told es) -ℚ book-burn w n x (book-mass w s (map told es))) (nat (leg-figure (λ p y. rate p * y .seconds) (Leg n x) + allowed rate (map told es)))
+  close-leg : (n : ℕ) (x : Figures) (d : Done Flown) (f : Leg-accepted w l n x d) → Near (nat (mass-of l - d .answer .burn)) (book-mass w s (map told es) -ℚ book-burn w n x (book-mass w s (map told es))) (nat (allowance rate (Leg n x) + allowed rate (map told es)))
   close-leg n x d f =
       let a = w .aircraft in
       let p = f .phase in
@@ -179,11 +179,11 @@ module _ (near : Burn-near) (rises : Burn-rises) (gains : Burn-gains) (rate : Ph
   accepted-leg : (n : ℕ) (x : Figures) (d : Done Flown) → outcome w l (Leg n x) ≡ Ok d → In-step rate w s (made-of (Leg n x) (Ok (d .answer)) es) (d .left)
   accepted-leg n x d q =
       let f = leg-ok w l n x d q in
-      let figure : leg-figure (λ p y. rate p * y .seconds) (Leg n x) ≡ rate (f .phase) * x .seconds = ap (λ (r : Result Phase Refusal). by-phase r 0 (λ p. rate p * x .seconds)) (f .numbered) in
+      let seconds : allowance rate (Leg n x) ≡ rate (f .phase) * x .seconds = ap (λ (r : Result Phase Refusal). by-phase r 0 (λ p. rate p * x .seconds)) (f .numbered) in
       let after : In-step rate w s (made-of (Leg n x) (Ok (d .answer)) es) (changed l (f .next) (l .fuel - d .answer .burn) (l .seconds + x .seconds)) =
         record {
           close = moved (omega (arith, f .enough)) (omega arith) (close-leg n x d f);
-          slow = omega (arith, figure, mul-le-mul-right (x .seconds) (modest (f .phase)), before .slow);
+          slow = omega (arith, seconds, mul-le-mul-right (x .seconds) (modest (f .phase)), before .slow);
           short = f .short;
           light = before .light;
           heavy = omega (arith, before .heavy);

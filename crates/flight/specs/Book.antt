@@ -1,9 +1,9 @@
 -- The exact book of a flight. It knows the start and, of each later call, what the call named and whether it was accepted. Nothing here reads a flight.
 --   Entry told                  what the book is told of a call
 --   book-mass book-fuel         its mass and fuel in mg, with no rounding anywhere
---   seconds-flown tolerance     seconds of accepted legs, and how far a flight may come from the book
+--   tolerance                   how far a flight may come from the book: a sum over accepted legs of a rate by leg
 use mathlib.Core.Bool.{Bool, true, false, cond}
-use mathlib.Core.List.{List, [], _∷_, map}
+use mathlib.Core.List.{List, [], _∷_}
 use Prim.Native.Nat.{ℕ, _+_, _*_}
 use Rattle.std.specs.declared.result.Result.{Result}
 use Rattle.std.specs.declared.result.Result.the-variants.{Ok, Err}
@@ -53,25 +53,18 @@ book-mass w s (e ∷ es) = cond (e .accepted) (book-after w (e .call) (book-mass
 abbrev pub book-fuel : Setting → Start → List Entry → ℚ
 book-fuel w s es = book-mass w s es -ℚ nat (in-mg (s .zero-fuel))
 
--- a figure of accepted legs, summed over a chain
-abbrev pub leg-figure : (Phase → Figures → ℕ) → Named-call → ℕ
-leg-figure of-leg (Leg n x) = by-phase (phase-numbered n) 0 (λ p. of-leg p x)
-leg-figure of-leg (Uplift grams) = 0
-leg-figure of-leg (Jettison grams) = 0
-leg-figure of-leg Touchdown = 0
+-- what an accepted call adds to the tolerance, at a rate in mg a second for each phase
+abbrev pub allowance : (rate : Phase → ℕ) → Named-call → ℕ
+allowance rate (Leg n x) = by-phase (phase-numbered n) 0 (λ p. rate p * x .seconds)
+allowance rate (Uplift grams) = 0
+allowance rate (Jettison grams) = 0
+allowance rate Touchdown = 0
 
-abbrev pub over-legs : (Phase → Figures → ℕ) → List Entry → ℕ
-over-legs of-leg [] = 0
-over-legs of-leg (e ∷ es) = cond (e .accepted) (leg-figure of-leg (e .call)) 0 + over-legs of-leg es
-
-abbrev pub seconds-flown : List Entry → ℕ
-seconds-flown = over-legs (λ p x. x .seconds)
-
--- what the legs of a chain allow, at a rate in mg a second for each phase
 abbrev pub allowed : (rate : Phase → ℕ) → List Entry → ℕ
-allowed rate = over-legs (λ p x. rate p * x .seconds)
+allowed rate [] = 0
+allowed rate (e ∷ es) = cond (e .accepted) (allowance rate (e .call)) 0 + allowed rate es
 
--- in mg a second
+-- 100 mg for each second, in every phase
 abbrev pub drift-rate : Phase → ℕ
 drift-rate p = 100
 

@@ -4,3 +4,4 @@ pub mod States
 pub mod Accounts
 pub mod Runs
 pub mod Claims
+pub mod Hops

@@ -2,15 +2,15 @@
 ghost use Prim.Native.Nat.{_+_, _≤_};
 use leg::flown::Flown;
 
-#[derive(Clone, Copy, PartialEq, Eq, Debug)]
-pub enum State {
+#[derive(Clone, Copy)]
+pub(crate) enum State {
     Stand,
     Airborne,
 }
 
 // Masses in mg. The zero-fuel mass is at least 0.2 t and the mass at most 900 t, as every aircraft's are.
-#[derive(Clone, Copy, Debug)]
-pub struct Status {
+#[derive(Clone, Copy)]
+pub(crate) struct Status {
     pub(crate) state: State,
     pub(crate) zero_fuel: u64,
     pub(crate) fuel: u64,
@@ -23,7 +23,7 @@ pub struct Status {
 
 // What a leg answers, and the status that it leaves.
 #[derive(Clone, Copy)]
-pub struct Step {
+pub(crate) struct Step {
     pub(crate) flown: Flown,
     pub(crate) left: Status,
 }

@@ -73,7 +73,7 @@ pub(crate) fn flown<K: Kind, D: Day>(aircraft: &Aircraft, kind: &K, day: &D, sta
 }
 
 // Grams put in or thrown out, in mg.
-fn some(grams: u64) -> Result<u64, Refusal>
+fn weighed(grams: u64) -> Result<u64, Refusal>
     ensures { λ r. ⌜ r ≡ cond (some-grams grams) (Ok (in-mg grams)) (Err Grams) ⌝ }
 {
     if grams < 1 || grams > 1000000000 {
@@ -85,23 +85,23 @@ fn some(grams: u64) -> Result<u64, Refusal>
 pub(crate) fn uplifted(aircraft: &Aircraft, status: Status, grams: u64) -> Result<Status, Refusal>
     ensures { λ r. ⌜ status-done r ≡ uplift-outcome (now (aircraft .entry)) (account-of status) grams ⌝ }
 {
-    let fuel = some(grams)?;
+    let added = weighed(grams)?;
     let state = next(status.state, Call::Uplift)?;
-    if status.zero_fuel + status.fuel + fuel > aircraft.masses.maximum * 1000 {
+    if status.zero_fuel + status.fuel + added > aircraft.masses.maximum * 1000 {
         return Err(Refusal::Overweight);
     }
-    Ok(Status { state, zero_fuel: status.zero_fuel, fuel: status.fuel + fuel, reserve: status.reserve, seconds: status.seconds })
+    Ok(Status { state, zero_fuel: status.zero_fuel, fuel: status.fuel + added, reserve: status.reserve, seconds: status.seconds })
 }
 
 pub(crate) fn jettisoned(status: Status, grams: u64) -> Result<Status, Refusal>
     ensures { λ r. ⌜ status-done r ≡ jettison-outcome (account-of status) grams ⌝ }
 {
-    let fuel = some(grams)?;
+    let thrown = weighed(grams)?;
     let state = next(status.state, Call::Jettison)?;
-    if fuel > status.fuel {
+    if thrown > status.fuel {
         return Err(Refusal::FuelShort);
     }
-    Ok(Status { state, zero_fuel: status.zero_fuel, fuel: status.fuel - fuel, reserve: status.reserve, seconds: status.seconds })
+    Ok(Status { state, zero_fuel: status.zero_fuel, fuel: status.fuel - thrown, reserve: status.reserve, seconds: status.seconds })
 }
 
 pub(crate) fn landed(status: Status) -> Result<Status, Refusal>
