@@ -1,13 +1,11 @@
 -- Every run keeps its claims: by induction over the run, whatever the rate of a leg.
-use mathlib.Core.Path.{_≡_, refl, sym, ap, subst, _∙_}
-use mathlib.Core.Bool.{true, false}
-use mathlib.Core.List.{List, [], _∷_, map}
-use Prim.Native.Nat.{ℕ, _+_, _-_, _*_, _^_, _≤_}
+use mathlib.Core.Path.{_≡_, sym, subst, _∙_}
+use mathlib.Core.List.{List, map}
+use Prim.Native.Nat.{ℕ, _+_, _≤_}
 use native.Mathlib.Omega.{arith}
 use Rattle.std.specs.declared.result.Result.{Result}
-use Rattle.std.specs.declared.result.Result.the-variants.{Ok, Err}
 use Rattle.refusal.specs.declared.refusal.Refusal.{Refusal}
-use Rattle.exact.specs.Rational.{ℚ, nat, _+ℚ_, _-ℚ_, _≤ℚ_, _<ℚ_, Near}
+use Rattle.exact.specs.Rational.{nat, _+ℚ_, _-ℚ_, _≤ℚ_, _<ℚ_}
 use Rattle.aircraft.specs.declared.record.Aircraft.{Aircraft}
 use Rattle.air.specs.Day.{Air, AirLaws}
 use Rattle.engine.specs.Meaning.{KindMeaning, KindLaws}
@@ -15,11 +13,11 @@ use Rattle.leg.specs.declared.phase.Phase.{Phase}
 use Rattle.leg.specs.declared.phase.Phase.the-variants.{Climb, Cruise, Descent}
 use Rattle.leg.specs.Nearness.{leg-rate, Burn-near, Burn-rises, Burn-gains}
 use Rattle.flight.specs.declared.flight.Flight.{Flight}
-use Rattle.flight.specs.Calls.{Setting, Start, in-mg, starting-reserve, Named-call, Answer, Event}
-use Rattle.flight.specs.Book.{told, book-mass, book-fuel, drift-rate, tolerance}
-use Rattle.flight.specs.Accounts.{Account, reading-of, outcome, answered, left-by}
-use Rattle.flight.specs.Runs.{account, Of, Started, setting, Made, Run, started, then}
-use Rattle.flight.specs.Claims.{Claims, Keeps-to-the-book}
+use Rattle.flight.specs.Calls.{Setting, Start, starting-reserve, Named-call, Answer, Event}
+use Rattle.flight.specs.Book.{told, book-mass, drift-rate, tolerance}
+use Rattle.flight.specs.Accounts.{reading-of, outcome, answered, left-by}
+use Rattle.flight.specs.Runs.{account, Flight-of, setting, Made, Run, started, then}
+use Rattle.flight.specs.Claims.{Keeps-to-the-book}
 use Rattle.flight.proofs.Marks.{mark-up, mark-down}
 use Rattle.flight.proofs.Kept.{In-step, made-of, begun-in-step, kept}
 
@@ -27,10 +25,10 @@ module _ (near : Burn-near) (rises : Burn-rises) (gains : Burn-gains) {K D : Typ
   -- a flight that a run led to, at any rate that covers the error of a leg and is at most 100 mg a second
   module _ (rate : Phase → ℕ) (covers : (p : Phase) → leg-rate p ≤ rate p) (modest : (p : Phase) → rate p ≤ 100) (aircraft : Aircraft) (kind : K) (day : D) (s : Start) where
     pub record Reached (es : List Event) (f : Flight K D) : Type 0 where
-      pub same : Of aircraft kind day f
+      pub same : Flight-of aircraft kind day f
       pub in-step : In-step rate (setting engine air aircraft kind day) s es (account f)
 
-    same-setting : (f : Flight K D) → Of aircraft kind day f → setting engine air aircraft kind day ≡ setting engine air (f .aircraft) (f .kind) (f .day)
+    same-setting : (f : Flight K D) → Flight-of aircraft kind day f → setting engine air aircraft kind day ≡ setting engine air (f .aircraft) (f .kind) (f .day)
     same-setting f o = let a = o .aircraft-is in let k = o .kind-is in let d = o .day-is in sym (rw (a, k, d))
 
     one-more : (es : List Event) (f g : Flight K D) (c : Named-call) (r : Result (Answer c) Refusal) → Made engine air f c r g → Reached es f → Reached (made-of c r es) g

@@ -1,6 +1,5 @@
 -- What every call keeps, accepted or refused: the flight's account in step with the book of its chain.
-use mathlib.Core.Path.{_≡_, refl, sym, ap, subst, _∙_}
-use mathlib.Core.Bool.{Bool, true, false, cond}
+use mathlib.Core.Path.{_≡_, refl, sym, ap, subst}
 use mathlib.Core.List.{List, [], _∷_, map}
 use Prim.Native.Nat.{ℕ, _+_, _-_, _*_, _^_, _≤_}
 use native.Mathlib.Nat.{mul-le-mul-right}
@@ -8,15 +7,13 @@ use native.Mathlib.Omega.{arith}
 use lib.Dec.{leb}
 use Rattle.std.specs.declared.result.Result.{Result}
 use Rattle.std.specs.declared.result.Result.the-variants.{Ok, Err}
-use Rattle.std.proofs.shelf.Tests.{leb-true, and-parts}
+use Rattle.std.proofs.shelf.Tests.{leb-true}
 use Rattle.refusal.specs.declared.refusal.Refusal.{Refusal}
 use Rattle.refusal.specs.declared.refusal.Refusal.the-variants as refusal
 use Rattle.exact.specs.Rational.{ℚ, nat, _-ℚ_, Near}
 use Rattle.exact.proofs.Laws.{nat-≤, near-weaken, near-same, ≈-refl, nat-≥0}
-use Rattle.aircraft.specs.declared.record.Aircraft.{Aircraft}
-use Rattle.aircraft.specs.declared.words.Configuration.{Configuration}
-use Rattle.air.specs.Day.{Air, AirLaws}
-use Rattle.engine.specs.Meaning.{KindMeaning, KindLaws}
+use Rattle.air.specs.Day.{AirLaws}
+use Rattle.engine.specs.Meaning.{KindLaws}
 use Rattle.leg.specs.declared.flown.Flown.{Flown}
 use Rattle.leg.specs.declared.phase.Phase.{Phase}
 use Rattle.leg.specs.Phases.{phase-numbered}
@@ -32,7 +29,7 @@ use Rattle.flight.specs.Book.{told, by-phase, book-burn, book-mass, allowance,
 use Rattle.flight.specs.States.{next-state}
 use Rattle.flight.specs.Accounts.{Account, mass-of, changed, unless, and-then, start-outcome, start-grams, first-account, most-seconds, Done, Outcome, answered, left-by, silent, leg-fuelled, leg-taken, some-grams, outcome}
 use Rattle.flight.specs.Claims.{put-in, thrown-out, burned-by, summed}
-use Rattle.flight.proofs.Accepted.{then-ok, unless-ok, Taken, taken, Lifted, lifted, bounded-drag}
+use Rattle.flight.proofs.Accepted.{then-ok, unless-ok, taken, Lifted, lifted, bounded-drag}
 use Rattle.flight.proofs.Step as step
 
 -- an account in step with the book of the chain, at a rate by phase

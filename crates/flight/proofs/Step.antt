@@ -1,7 +1,7 @@
 -- One leg of a flight and of its book: two masses come no further apart than the leg's own error.
 use mathlib.Core.List.{[], _∷_}
 use mathlib.Core.Logic.{⊎-elim}
-use Prim.Native.Nat.{ℕ, _+_, _-_, _*_, _^_, _≤_}
+use Prim.Native.Nat.{ℕ, _+_, _-_, _^_, _≤_}
 use native.Mathlib.Omega.{arith}
 use Rattle.exact.specs.Rational.{ℚ, nat, _+ℚ_, _-ℚ_, _≤ℚ_, Near}
 use Rattle.exact.proofs.Laws.{≤-total, nat-≤, nat-≥0, nat-+, nat-−}

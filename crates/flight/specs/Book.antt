@@ -14,7 +14,7 @@ use Rattle.leg.specs.Phases.{phase-numbered}
 use Rattle.leg.specs.Requests.{Figures}
 use Rattle.leg.specs.Configurations.{configuration-of}
 use Rattle.leg.specs.Exact.{exact-burn}
-use Rattle.flight.specs.Calls.{Setting, Start, in-mg, starting-mass, Named-call, Leg, Uplift, Jettison, Touchdown, Answer, Event}
+use Rattle.flight.specs.Calls.{Setting, Start, in-mg, starting-mass, Named-call, Leg, Uplift, Jettison, Touchdown, Event}
 
 pub record Entry : Type 0 where
   pub call : Named-call

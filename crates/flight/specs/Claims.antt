@@ -6,7 +6,7 @@ use Prim.Native.Nat.{ℕ, _+_}
 use Rattle.std.specs.declared.result.Result.{Result}
 use Rattle.std.specs.declared.result.Result.the-variants.{Ok, Err}
 use Rattle.refusal.specs.declared.refusal.Refusal.{Refusal}
-use Rattle.exact.specs.Rational.{ℚ, nat, _+ℚ_, _≤ℚ_, _<ℚ_, Near}
+use Rattle.exact.specs.Rational.{nat, _+ℚ_, _≤ℚ_, _<ℚ_, Near}
 use Rattle.aircraft.specs.declared.record.Aircraft.{Aircraft}
 use Rattle.air.specs.Day.{Air}
 use Rattle.engine.specs.Meaning.{KindMeaning}

@@ -4,7 +4,7 @@ use Prim.Native.Nat.{ℕ}
 use Rattle.std.specs.declared.option.Option.the-variants.{None}
 use Rattle.leg.specs.Requests.{Figures}
 use Rattle.flight.specs.declared.hop.Hop.{Hop}
-use Rattle.flight.specs.Calls.{Setting, Start, Leg, Uplift, Touchdown, Event}
+use Rattle.flight.specs.Calls.{Setting, Leg, Uplift, Touchdown}
 use Rattle.flight.specs.Claims.{Claims}
 
 abbrev pub Hop-claims : Setting → (zero-fuel grams : ℕ) → Figures → Hop → Type 0

@@ -23,14 +23,14 @@ module _ {K D : Type 0} where
   begun (Err e) = Err e
 
   -- a flight of this aircraft, kind and day
-  pub record Of (aircraft : Aircraft) (kind : K) (day : D) (f : Flight K D) : Type 0 where
+  pub record Flight-of (aircraft : Aircraft) (kind : K) (day : D) (f : Flight K D) : Type 0 where
     pub aircraft-is : f .aircraft ≡ aircraft
     pub kind-is : f .kind ≡ kind
     pub day-is : f .day ≡ day
 
   pub record Started (aircraft : Aircraft) (kind : K) (day : D) (s : Start) (r : Result (Flight K D) Refusal) : Type 0 where
     pub answer : begun r ≡ start-outcome aircraft s
-    pub same : made r (Of aircraft kind day)
+    pub same : made r (Flight-of aircraft kind day)
 
 module _ {K D : Type 0} (engine : K → KindMeaning) (air : D → Air) where
   abbrev pub setting : Aircraft → K → D → Setting
@@ -43,7 +43,7 @@ module _ {K D : Type 0} (engine : K → KindMeaning) (air : D → Air) where
   pub record Made (f : Flight K D) (c : Named-call) (r : Result (Answer c) Refusal) (g : Flight K D) : Type 0 where
     pub answer : r ≡ answered (flight-outcome f c)
     pub left : account g ≡ left-by (account f) (flight-outcome f c)
-    pub same : Of (f .aircraft) (f .kind) (f .day) g
+    pub same : Flight-of (f .aircraft) (f .kind) (f .day) g
 
   -- the latest event first
   pub data Run (aircraft : Aircraft) (kind : K) (day : D) (s : Start) : List Event → Flight K D → Type 0 where

@@ -2,7 +2,7 @@
 ghost use mathlib.Core.Path.{_≡_};
 ghost use Rattle.flight.specs.Calls.{Leg, Uplift, Jettison, Touchdown};
 ghost use Rattle.flight.specs.Accounts.{account-of, leg-outcome, step-done, reading-of};
-ghost use Rattle.flight.specs.Runs.{account, Started, Made};
+ghost use Rattle.flight.specs.Runs.{account, setting, Started, Made};
 ghost use Rattle.flight.specs.Claims.{Keeps-to-the-book};
 use crate::flight::Flight;
 use crate::reading::Reading;
@@ -34,25 +34,26 @@ impl<K: Kind + Copy, D: Day + Copy> Flight<K, D> {
 }
 
 impl<K: Kind + Drop, D: Day + Drop> Flight<K, D> {
-    // The leg that a phase's number and some figures name.
-    fn legged(&self, phase: u64, altitude: u64, speed: u64, calibrated: u64, seconds: u64) -> Result<Step, Refusal>
-        ensures { λ r. ⌜ step-done r ≡ leg-outcome (record { aircraft = now (self .entry) .aircraft; engine = engine (now (self .entry) .kind); air = air (now (self .entry) .day) }) (account (now (self .entry))) phase (record { altitude = altitude; speed = speed; calibrated = calibrated; seconds = seconds }) ⌝ }
+    // The leg that a phase's number and some figures name, flown from a status; the flight is not touched.
+    pub(crate) fn legged(&self, status: Status, phase: u64, altitude: u64, speed: u64, calibrated: u64, seconds: u64) -> Result<Step, Refusal>
+        ensures { λ r. ⌜ step-done r ≡ leg-outcome (setting engine air (now (self .entry) .aircraft) (now (self .entry) .kind) (now (self .entry) .day)) (account-of status) phase (record { altitude = altitude; speed = speed; calibrated = calibrated; seconds = seconds }) ⌝ }
     {
         let phase = Phase::numbered(phase)?;
-        let state = next(self.status.state, Call::Leg(phase))?;
+        let state = next(status.state, Call::Leg(phase))?;
         let request = Request::new(&self.aircraft, altitude, speed, calibrated, seconds)?;
-        flown(&self.aircraft, &self.kind, &self.day, self.status, phase, state, &request)
+        flown(&self.aircraft, &self.kind, &self.day, status, phase, state, &request)
     }
 
     // Altitude in ft, true airspeed in 0.1 kt, calibrated airspeed in kt.
     pub fn leg(&mut self, phase: u64, altitude: u64, speed: u64, calibrated: u64, seconds: u64) -> Result<Flown, Refusal>
         ensures { λ r. ⌜ Made engine air (now (self .entry)) (Leg phase (record { altitude = altitude; speed = speed; calibrated = calibrated; seconds = seconds })) r (now (self .exit)) ⌝ }
     {
-        let step = self.legged(phase, altitude, speed, calibrated, seconds)?;
+        let step = self.legged(self.status, phase, altitude, speed, calibrated, seconds)?;
         self.status = step.left;
         Ok(step.flown)
     }
 
+    // Grams of fuel put in, on stand.
     pub fn uplift(&mut self, grams: u64) -> Result<(), Refusal>
         ensures { λ r. ⌜ Made engine air (now (self .entry)) (Uplift grams) r (now (self .exit)) ⌝ }
     {
@@ -60,6 +61,7 @@ impl<K: Kind + Drop, D: Day + Drop> Flight<K, D> {
         Ok(())
     }
 
+    // Grams of fuel thrown out, in the air.
     pub fn jettison(&mut self, grams: u64) -> Result<(), Refusal>
         ensures { λ r. ⌜ Made engine air (now (self .entry)) (Jettison grams) r (now (self .exit)) ⌝ }
     {
@@ -67,6 +69,7 @@ impl<K: Kind + Drop, D: Day + Drop> Flight<K, D> {
         Ok(())
     }
 
+    // Back to stand.
     pub fn touchdown(&mut self) -> Result<(), Refusal>
         ensures { λ r. ⌜ Made engine air (now (self .entry)) Touchdown r (now (self .exit)) ⌝ }
     {
@@ -74,6 +77,7 @@ impl<K: Kind + Drop, D: Day + Drop> Flight<K, D> {
         Ok(())
     }
 
+    // Mass, fuel and minimum-fuel mark. Whatever start and calls led to this flight, they are close to the exact book of that chain.
     pub fn reading(&self) -> Reading
         ensures answer { λ r. ⌜ r ≡ reading-of (account (now (self .entry))) ⌝ }
         ensures claims { λ r. ⌜ Keeps-to-the-book engine air (now (self .entry)) r ⌝ }

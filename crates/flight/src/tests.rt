@@ -1,5 +1,6 @@
 // Flights at the sample's figures, each call in each state, each refusal in its order, and a long chain; the figures were worked out apart from this code.
 use crate::flight::Flight;
+use crate::hop::fly_hop;
 use crate::reading::Reading;
 use crate::reading::ReadingDebug;
 use crate::reading::ReadingPartialEq;
@@ -107,6 +108,15 @@ fn sample_legs() -> Result<(), Fail> {
     check_eq(number(flight.leg(2, 30000, 4500, 280, 61)), 20)?;
     flight.jettison(100000)?;
     check_eq(flight.reading(), Reading { mass: 59789291250, fuel: 9789291250, minimum: false })
+}
+
+#[test]
+fn sample_hop() -> Result<(), Fail> {
+    let hop = fly_hop(sample(), Jet { coefficients: sample_jet() }, Bench::new(45000, 0)?, 50000000, 10000000, 30000, 4500, 280, 60)?;
+    check_eq(number(hop.uplifted), 0)?;
+    check_eq(number(hop.flown), 0)?;
+    check_eq(number(hop.landed), 0)?;
+    check_eq(hop.reading, Reading { mass: 59925397500, fuel: 9925397500, minimum: false })
 }
 
 #[test]
