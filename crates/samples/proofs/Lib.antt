@@ -1,0 +1,2 @@
+mod Exists
+mod Worked

@@ -1,0 +1,3 @@
+pub mod SampleJet
+pub mod SampleSheet
+pub mod Worked
