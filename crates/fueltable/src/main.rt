@@ -79,15 +79,26 @@ fn print_table(rt: &LibcRuntime, aircraft: &Aircraft) -> io::Result<()> {
     rt.print(tally)
 }
 
-fn main(rt: LibcRuntime) -> io::Result<()> {
-    let bytes = bytes_of(&rt, "aircraft.opf")?;
+// The table of the aircraft file in the current folder, or the file's first fault.
+fn run(rt: &LibcRuntime) -> io::Result<()> {
+    let bytes = bytes_of(rt, "aircraft.opf")?;
     match read(bytes.as_slice()) {
-        Ok(aircraft) => print_table(&rt, &aircraft),
+        Ok(aircraft) => print_table(rt, &aircraft),
         Err(fault) => {
             let number = fault.number();
             let line = fault.line();
             let field = fault.field();
             println!(rt, "no {number} {line} {field}")
+        }
+    }
+}
+
+fn main(rt: LibcRuntime) -> io::Result<()> {
+    match run(&rt) {
+        Ok(()) => Ok(()),
+        Err(e) => {
+            eprintln!(rt, "fueltable: {e}")?;
+            Err(e)
         }
     }
 }
