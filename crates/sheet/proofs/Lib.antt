@@ -1,3 +1,4 @@
 mod Digits
 mod Printable
 mod Words
+pub mod Kept

@@ -9,11 +9,11 @@ use std::fmt;
 
 // A mark: 1 where it is up.
 #[derive(Clone, Copy)]
-pub struct Mark {
+struct Mark {
     up: bool,
 }
 
-pub impl fmt::Display for Mark as MarkDisplay {
+impl fmt::Display for Mark as MarkDisplay {
     ghost shown = { λ v. Some (mark-text (v .up)) };
 
     fn fmt<W: fmt::Write>(&self, f: &mut fmt::Formatter<W>) -> fmt::Result {
@@ -23,11 +23,11 @@ pub impl fmt::Display for Mark as MarkDisplay {
 
 // Mass, fuel and the minimum-fuel mark.
 #[derive(Clone, Copy)]
-pub struct Figures {
+struct Figures {
     reading: Reading,
 }
 
-pub impl fmt::Display for Figures as FiguresDisplay {
+impl fmt::Display for Figures as FiguresDisplay {
     ghost shown = { λ v. Some (figures-text (v .reading)) };
 
     fn fmt<W: fmt::Write>(&self, f: &mut fmt::Formatter<W>) -> fmt::Result {
@@ -40,11 +40,11 @@ pub impl fmt::Display for Figures as FiguresDisplay {
 
 // Configuration, thrust and drag.
 #[derive(Clone, Copy)]
-pub struct Forces {
+struct Forces {
     flown: Flown,
 }
 
-pub impl fmt::Display for Forces as ForcesDisplay {
+impl fmt::Display for Forces as ForcesDisplay {
     ghost shown = { λ v. Some (forces-text (v .flown)) };
 
     fn fmt<W: fmt::Write>(&self, f: &mut fmt::Formatter<W>) -> fmt::Result {
@@ -57,11 +57,11 @@ pub impl fmt::Display for Forces as ForcesDisplay {
 
 // What a leg answers.
 #[derive(Clone, Copy)]
-pub struct LegFigures {
+struct LegFigures {
     flown: Flown,
 }
 
-pub impl fmt::Display for LegFigures as LegFiguresDisplay {
+impl fmt::Display for LegFigures as LegFiguresDisplay {
     ghost shown = { λ v. Some (flown-text (v .flown)) };
 
     fn fmt<W: fmt::Write>(&self, f: &mut fmt::Formatter<W>) -> fmt::Result {
