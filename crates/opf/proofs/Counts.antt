@@ -63,7 +63,7 @@ fixed-down d a b n down =
     ∙ add-zero ((d % 10 ^ n) * 10 ^ a) in
     rw (e, q, r) (ap (λ (t : Bool). cond t (Some (d / 10 ^ n)) None) (zero-times (d % 10 ^ n) (10 ^ a) (ten-pos a)))
 
-pub fixed-zero : (a b : ℕ) → fixed-point 0 a b ≡ Some 0
+pub fixed-zero : (a b : ℕ) → fixed-point (0) a b ≡ Some 0
 unfolding fixed-point
 fixed-zero a b = rw (zero-mul (10 ^ a), zero-mod (10 ^ b), zero-div (10 ^ b))
 
