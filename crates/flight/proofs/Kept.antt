@@ -16,20 +16,20 @@ use Rattle.air.specs.Day.{AirLaws}
 use Rattle.engine.specs.Meaning.{KindLaws}
 use Rattle.leg.specs.declared.flown.Flown.{Flown}
 use Rattle.leg.specs.declared.phase.Phase.{Phase}
-use Rattle.leg.specs.Phases.{phase-numbered}
-use Rattle.leg.specs.Requests.{Figures, In-range, taken-figures}
+use Rattle.leg.specs.Requests.{Figures}
 use Rattle.leg.specs.Configurations.{configuration-of, drag-pair}
-use Rattle.leg.specs.Legs.{flown-with, leg-answer}
+use Rattle.leg.specs.Legs.{flown-with}
 use Rattle.leg.specs.Exact.{exact-burn}
-use Rattle.leg.specs.Nearness.{leg-rate, Accepted, Burn-near, Burn-rises, Burn-gains}
+use Rattle.leg.proofs.Answered.{drag-pair-bounds, accepted as accepted-leg-at}
+use Rattle.leg.specs.Nearness.{leg-rate, Burn-near, Burn-rises, Burn-gains}
 use Rattle.flight.specs.declared.status.State.{State}
 use Rattle.flight.specs.declared.states.Call.the-variants as call
 use Rattle.flight.specs.Calls.{Setting, Start, in-mg, starting-mass, starting-reserve, Named-call, Leg, Uplift, Jettison, Touchdown, Answer, Event}
 use Rattle.flight.specs.Book.{told, by-phase, book-burn, book-mass, allowance, allowed}
 use Rattle.flight.specs.States.{next-state}
-use Rattle.flight.specs.Accounts.{Account, mass-of, changed, unless, and-then, start-outcome, start-grams, first-account, most-seconds, Done, Outcome, answered, left-by, silent, leg-fuelled, leg-taken, some-grams, outcome}
+use Rattle.flight.specs.Accounts.{Account, mass-of, changed, unless, and-then, start-outcome, start-grams, first-account, Done, Outcome, answered, left-by, silent, some-grams, outcome}
 use Rattle.flight.specs.Claims.{put-in, thrown-out, burned-by, summed}
-use Rattle.flight.proofs.Accepted.{then-ok, unless-ok, taken, Lifted, lifted, bounded-drag}
+use Rattle.flight.proofs.Outcomes.{then-ok, unless-ok, Leg-accepted, leg-ok}
 use Rattle.flight.proofs.Step as step
 
 -- an account in step with the book of the chain, at a rate by phase
@@ -45,58 +45,6 @@ pub record In-step (rate : Phase → ℕ) (w : Setting) (s : Start) (es : List E
 
 abbrev pub made-of : (c : Named-call) → Result (Answer c) Refusal → List Event → List Event
 made-of c r es = record { call = c; answer = r } ∷ es
-
--- A leg that was accepted.
-
-pub record Leg-accepted (w : Setting) (l : Account) (n : ℕ) (x : Figures) (d : Done Flown) : Type 0 where
-  pub phase : Phase
-  pub next : State
-  pub numbered : phase-numbered n ≡ Ok phase
-  pub range : In-range x
-  pub short : l .seconds + x .seconds ≤ 10 ^ 6
-  pub flew : Lifted (w .aircraft) (w .engine) (w .air) phase x (mass-of l) (d .answer)
-  pub enough : d .answer .burn ≤ l .fuel
-  pub left : d .left ≡ changed l next (l .fuel - d .answer .burn) (l .seconds + x .seconds)
-
-module _ (w : Setting) (l : Account) where
-  leg-fuelled-ok : (p : Phase) (next : State) (x : Figures) (d : Done Flown) (n : ℕ) (numbered : phase-numbered n ≡ Ok p) (range : In-range x) → l .seconds + x .seconds ≤ 10 ^ 6 → (a : Flown) → leg-answer (w .aircraft) (w .engine) (w .air) p x (mass-of l) ≡ Ok a → leg-fuelled l next (x .seconds) a ≡ Ok d → Leg-accepted w l n x d
-  leg-fuelled-ok p next x d n numbered range short a flew q =
-      let e : Done Flown = record { answer = a; left = changed l next (l .fuel - a .burn) (l .seconds + x .seconds) } in
-      let p1 = unless-ok refusal.FuelShort (leb (a .burn) (l .fuel)) (Ok e) d q in
-      let o : Ok e ≡ Ok d = p1 .1 in
-      let is : e ≡ d = cc in
-      let facts : Leg-accepted w l n x e =
-      record {
-        phase = p;
-        next = next;
-        numbered = numbered;
-        range = range;
-        short = short;
-        flew = lifted (w .aircraft) (w .engine) (w .air) p x (mass-of l) a flew;
-        enough = leb-true (a .burn) (l .fuel) (p1 .0);
-        left = refl;
-      } in
-      subst (Leg-accepted w l n x) is facts
-
-  leg-taken-ok : (p : Phase) (next : State) (x : Figures) (d : Done Flown) (n : ℕ) → phase-numbered n ≡ Ok p → In-range x → leg-taken w l p next x ≡ Ok d → Leg-accepted w l n x d
-  leg-taken-ok p next x d n numbered range q =
-      let answer = leg-answer (w .aircraft) (w .engine) (w .air) p x (mass-of l) in
-      let p1 = unless-ok refusal.FlownSeconds (leb (l .seconds + x .seconds) most-seconds) (and-then answer (leg-fuelled l next (x .seconds))) d q in
-      let p2 = then-ok answer (leg-fuelled l next (x .seconds)) d (p1 .1) in
-      leg-fuelled-ok p next x d n numbered range (leb-true (l .seconds + x .seconds) (10 ^ 6) (p1 .0)) (p2 .0) (p2 .1) (p2 .2)
-
-  pub leg-ok : (n : ℕ) (x : Figures) (d : Done Flown) → outcome w l (Leg n x) ≡ Ok d → Leg-accepted w l n x d
-  leg-ok n x d q =
-      let from-state : Phase → State → Outcome Flown = λ p next. and-then (taken-figures (w .aircraft) x) (leg-taken w l p next) in
-      let from-phase : Phase → Outcome Flown = λ p. and-then (next-state (l .state) (call.Leg p)) (from-state p) in
-      let p1 = then-ok (phase-numbered n) from-phase d q in
-      let p = p1 .0 in
-      let p2 = then-ok (next-state (l .state) (call.Leg p)) (from-state p) d (p1 .2) in
-      let next = p2 .0 in
-      let p3 = then-ok (taken-figures (w .aircraft) x) (leg-taken w l p next) d (p2 .2) in
-      let t = taken (w .aircraft) x (p3 .0) (p3 .1) in
-      let P : Figures → Type 0 = λ y. leg-taken w l p next y ≡ Ok d in
-      leg-taken-ok p next x d n (p1 .1) (t .within) (subst P (t .same) (p3 .2))
 
 -- the same nearness, its parts said otherwise
 moved : {m m′ t t′ : ℕ} {B : ℚ} → m ≡ m′ → t ≤ t′ → Near (nat m) B (nat t) → Near (nat m′) B (nat t′)
@@ -153,14 +101,14 @@ module _ (near : Burn-near) (rises : Burn-rises) (gains : Burn-gains) (rate : Ph
       let pair = drag-pair a c in
       let m = mass-of l in
       let β : ℚ → ℚ = λ y. exact-burn a (w .engine) (w .air) p c x y in
-      let ok : Accepted a (w .engine) (w .air) p c x m =
-      record { figures = f .range; light = omega (arith, before .light); heavy = before .heavy; lift = f .flew .lift; flow = f .flew .flow } in
-      let bounds = bounded-drag a c in
+      let flew = accepted-leg-at a (w .engine) (w .air) p x m (d .answer) (f .range) (omega (arith, before .light)) (before .heavy) (sym (f .flew)) in
+      let ok = flew .0 in
+      let bounds = drag-pair-bounds a c in
       let own : Near (nat (flown-with a (w .engine) (w .air) p c pair x m .burn)) (β (nat m)) (nat (leg-rate p * x .seconds)) =
       near a (w .engine) (w .air) p c pair x m kind day bounds ok in
       let Burn : Flown → Type 0 = λ y. Near (nat (y .burn)) (β (nat m)) (nat (leg-rate p * x .seconds)) in
       let burns : Near (nat (d .answer .burn)) (β (nat m)) (nat (rate p * x .seconds)) =
-      near-weaken (subst Burn (sym (f .flew .answer)) own) (nat-≤ (mul-le-mul-right (x .seconds) (covers p))) in
+      near-weaken (subst Burn (sym (flew .1)) own) (nat-≤ (mul-le-mul-right (x .seconds) (covers p))) in
       let after =
       step.after-leg β m (d .answer .burn) (allowed rate (map told es)) (rate p * x .seconds) (book-mass w s (map told es))
       (rises a (w .engine) (w .air) p c pair x m kind day bounds ok)

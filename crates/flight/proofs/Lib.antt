@@ -1,5 +1,5 @@
 mod Step
-mod Accepted
+mod Outcomes
 mod Kept
 mod Marks
 mod Chains
