@@ -1,4 +1,6 @@
 // Reads a script and writes the answers: at once where somebody types, in blocks where a file is piped.
+ghost use Rattle.sheet.specs.Sheets.{Keeps};
+use sheet::answer::Answer;
 use sheet::show::AnswerDisplay;
 use sheet::sheet::Sheet;
 use std::fmt::Write;
@@ -78,12 +80,17 @@ fn without_end(line: &[u8], ended: Ended) -> &[u8] {
     }
 }
 
-fn answer(sheet: &mut Sheet, line: &[u8], out: &mut String) -> io::Result<()> {
-    let answer = sheet.line(line);
+fn put(answer: Answer<'_>, out: &mut String) -> io::Result<()> {
     match write!(out, "{answer}") {
         Ok(()) => Ok(()),
         Err(_) => Err(io::Error::from(io::ErrorKind::OutOfMemory)),
     }
+}
+
+fn answer(sheet: &mut Sheet, line: &[u8], out: &mut String) -> io::Result<()>
+    ensures { λ _. ⌜ Keeps (now (sheet .entry)) (now (sheet .exit)) ⌝ }
+{
+    put(sheet.line(line), out)
 }
 
 // Writes what is due, and holds it no longer.
@@ -93,22 +100,37 @@ fn write_due(rt: &LibcRuntime, out: &mut String) -> io::Result<()> {
     written
 }
 
-fn answer_lines<R: Read>(rt: &LibcRuntime, sheet: &mut Sheet, input: &mut BufReader<R>, out: &mut String) -> io::Result<()> {
+// Answers the next line; false where there is none.
+fn answer_next<R: Read>(rt: &LibcRuntime, sheet: &mut Sheet, input: &mut BufReader<R>, line: &mut Vec<u8>, out: &mut String) -> io::Result<bool>
+    ensures { λ _. ⌜ Keeps (now (sheet .entry)) (now (sheet .exit)) ⌝ }
+{
+    let ended = take_line(input, line)?;
+    if let Ended::Nothing = ended {
+        return Ok(false);
+    }
+    answer(sheet, without_end(line.as_slice(), ended), out)?;
+    if out.len() > MOST_HELD || !input.buffer().contains(&b'\n') {
+        write_due(rt, out)?;
+    }
+    Ok(true)
+}
+
+fn answer_lines<R: Read>(rt: &LibcRuntime, sheet: &mut Sheet, input: &mut BufReader<R>, out: &mut String) -> io::Result<()>
+    ensures { λ _. ⌜ Keeps (now (sheet .entry)) (now (sheet .exit)) ⌝ }
+{
     let mut line = Vec::new(rt.alloc());
     for _ in 0..u64::MAX {
-        match take_line(input, &mut line)? {
-            Ended::Nothing => return Ok(()),
-            ended => answer(sheet, without_end(line.as_slice(), ended), out)?,
-        }
-        if out.len() > MOST_HELD || !input.buffer().contains(&b'\n') {
-            write_due(rt, out)?;
+        if !answer_next(rt, sheet, input, &mut line, out)? {
+            return Ok(());
         }
     }
     Ok(())
 }
 
-// Answers every line; answers that are due are written also where the input fails.
-pub fn run<R: Read>(rt: &LibcRuntime, sheet: &mut Sheet, input: &mut BufReader<R>) -> io::Result<()> {
+// Answers every line; answers that are due are written also where the input fails. The sheet stays that of its aircraft.
+pub fn run<R: Read>(rt: &LibcRuntime, sheet: &mut Sheet, input: &mut BufReader<R>) -> io::Result<()>
+    ensures { λ _. ⌜ Keeps (now (sheet .entry)) (now (sheet .exit)) ⌝ }
+{
     let mut out = String::new(rt.alloc());
     let answered = answer_lines(rt, sheet, input, &mut out);
     let written = write_due(rt, &mut out);
