@@ -22,7 +22,7 @@ use Rattle.flight.specs.declared.flight.Flight.{Flight}
 use Rattle.flight.specs.declared.reading.Reading.{Reading}
 use Rattle.flight.specs.Calls as calls
 use Rattle.flight.specs.Accounts.{reading-of}
-use Rattle.flight.specs.Runs.{account, Of, Started, Made}
+use Rattle.flight.specs.Runs.{account, Started, Made}
 use Rattle.flight.specs.Claims.{Keeps-to-the-book}
 use Rattle.sheet.specs.declared.form.Form.{Form}
 use Rattle.sheet.specs.declared.form.Form.the-variants as form
