@@ -1,19 +1,18 @@
 -- The first line of a text, by its first LF; and a line's bytes one by one.
 use mathlib.Core.Path.{_≡_, refl, sym, ap, _∙_}
-use mathlib.Core.Bool.{Bool, true, false, cond, not, _&&_}
+use mathlib.Core.Bool.{Bool, true, false, _&&_}
 use mathlib.Core.List.{List, [], _∷_}
-use Prim.Native.Nat.{ℕ, zero, suc, _+_, _-_, _<_, _≤_}
+use Prim.Native.Nat.{ℕ, zero, suc, _+_, _-_, _<_}
 use native.Mathlib.Nat.{sub-zero}
 use native.Mathlib.Numerals.{one-add, add-one, unary-clauses}
 use native.Mathlib.Omega.{arith}
-use lib.Dec.{eqb, leb}
+use lib.Dec.{eqb}
 use lib.ListN.{length, take, drop, getD}
 use Rattle.std.specs.shelf.Lists.{leading}
-use Rattle.std.proofs.shelf.Lists.{drop-more, drop-all}
-use mathlib.Core.Logic.{_⊎_, inl, inr, ⊎-elim}
-use Rattle.std.proofs.shelf.Ways.{tells}
+use Rattle.std.proofs.shelf.Lists.{drop-more}
+use mathlib.Core.Logic.{_⊎_, ⊎-elim}
 use Rattle.std.proofs.shelf.Tests.{eq-eqb, ne-eqb, both-ways, and-right, and-cases, and-parts, or-from, or-left, or-right, cases-bool}
-use Rattle.opf.specs.Text.{lines, onto, at-lf, every, printable}
+use Rattle.opf.specs.Text.{lines, onto, at-lf, every}
 use Rattle.opf.specs.Fields.{other-than}
 use Rattle.opf.specs.LineEnds.{without-cr, line-end-byte}
 use Rattle.opf.specs.Files.{blank}
@@ -24,14 +23,6 @@ every-more p s i h e = rw (drop-more s i 0, e)
 
 pub every-stops : (p : ℕ → Bool) (s : List ℕ) (i : ℕ) → i < length s → p (getD s i 0) ≡ false → every p (drop i s) ≡ false
 every-stops p s i h e = rw (drop-more s i 0, e)
-
-pub printable-more : (s : List ℕ) (i : ℕ) → i < length s → 32 ≤ getD s i 0 → getD s i 0 ≤ 126 → every printable (drop (i + 1) s) ≡ every printable (drop i s)
-printable-more s i h p q = let e : printable (getD s i 0) ≡ true = grind (arith, tells) in every-more printable s i h e
-
-pub unprintable : (s : List ℕ) (i : ℕ) → i < length s → (getD s i 0 < 32) ⊎ (126 < getD s i 0) → every printable (drop i s) ≡ false
-unprintable s i h p =
-    let e : printable (getD s i 0) ≡ false = ⊎-elim (λ x. grind (arith, tells)) (λ x. grind (arith, tells)) p in
-    every-stops printable s i h e
 
 -- what stands before the first LF, without a CR at its end
 abbrev pub front : List ℕ → List ℕ

@@ -14,11 +14,18 @@ pub(crate) enum Token<'a> {
     End(&'a [u8]),
 }
 
+// Whether a line may have the byte.
+fn is_allowed(b: u8) -> bool
+    ensures { λ r. ⌜ r ≡ printable b ⌝ }
+{
+    b >= 32 && b <= 126
+}
+
 fn is_printable(line: &[u8]) -> bool
     ensures { λ r. ⌜ r ≡ every printable (now (line .entry)) ⌝ }
 {
     for b in line {
-        if *b < 32 || *b > 126 {
+        if !is_allowed(*b) {
             return false;
         }
     }

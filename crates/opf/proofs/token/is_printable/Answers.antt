@@ -1,21 +1,18 @@
-use borrow.Author.Needs.{needs}
 use mathlib.Core.Path.{sym, _∙_}
-use mathlib.Core.Logic.{inl, inr}
 use Rattle.std.proofs.shelf.Lists.{at-drop-all}
 use Rattle.opf.specs.Text.{every, printable}
-use Rattle.opf.proofs.LineEnds.{printable-more, unprintable}
+use Rattle.opf.proofs.LineEnds.{every-more, every-stops}
 use Rattle.opf.proofs.token.is_printable.Needs as need
-use Rattle.opf.proofs.token.is_printable.Needs.{then-b-lt32·by·then-b-lt32, then-b-lt32·by·else-b-lt32·then-b-gt126}
-
-pub returns-then-b-lt32 : need.returns-then-b-lt32
-returns-then-b-lt32 c =
-    sym
-    (unprintable (c .args .line .now) (c .loop-b .b-index) (c .loop-b-test .taken)
-    (elim (c .then-b-lt32 .came) [ then-b-lt32·by·then-b-lt32 w ↦ inl (w .if-b-lt32 .taken) | then-b-lt32·by·else-b-lt32·then-b-gt126 w ↦ inr (w .if-b-gt126 .taken) ]))
-    ∙ c .loop-b .inv
 
 pub loop-b-again : need.loop-b-again
-loop-b-again c = search (needs, printable-more)
+loop-b-again c =
+    every-more printable (c .args .line .now) (c .loop-b .b-index) (c .loop-b-test .taken) (sym (c .if-not-is-allowed .ensures tt))
+    ∙ c .loop-b .inv
+
+pub returns-then-not-is-allowed : need.returns-then-not-is-allowed
+returns-then-not-is-allowed c =
+    sym (every-stops printable (c .args .line .now) (c .loop-b .b-index) (c .loop-b-test .taken) (sym (c .if-not-is-allowed .ensures tt)))
+    ∙ c .loop-b .inv
 
 pub returns : need.returns
 returns c = sym (at-drop-all (every printable) (c .args .line .now) (c .loop-b .b-index) (c .loop-b-test .left)) ∙ c .loop-b .inv
