@@ -92,7 +92,7 @@ pub struct JetCoefficients {
     ghost ctc3_most: { ctc3 ≤ 9999900 },
 }
 
-// A turboprop: CTc1 in 0.001 typeof.kt.N, CTc2 in ft, CTc3 in mN.
+// A turboprop: CTc1 in 0.001 kt·N, CTc2 in ft, CTc3 in mN.
 #[derive(Clone, Copy, Debug)]
 pub struct TurbopropCoefficients {
     pub ctc1: u64,
