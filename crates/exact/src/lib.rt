@@ -1,4 +1,6 @@
 // Exact rational numbers for specifications: no program computes with them. The functions here carry what they are.
+#![tactic(auto)]
+
 ghost use Rattle.exact.specs.Meaning.{AsFractions, UndoesProduct, ByOrder};
 
 // Order, equality, sum, product and opposite are those of fractions with whole numerators and positive denominators.
