@@ -1,8 +1,8 @@
 // The bench day, and one type for all days.
 ghost use Rattle.std.specs.Prelude.{◌≡◌};
 ghost use Rattle.air.specs.Days.{bench_air, bench_pair, held, any_air};
-ghost use Rattle.std.proofs.Common.{rules, arith};
 ghost use Rattle.air.specs.Laws.{bench_laws, standard_laws};
+ghost use Rattle.air.specs.declared.days.AnyDay.TheVariants as any;
 
 use crate::bench::Bench;
 use crate::day::Day;
@@ -24,7 +24,7 @@ impl Bench {
 impl Day for Bench {
     ghost air = { bench_air };
 
-    ghost bounded = { first_of (Prim.search rules, Prim.grind (arith, Self.row.coded.inj)) };
+    ghost bounded = { bench_laws };
 
     fn at(&self, altitude: u64) -> Result<(u64, i64), Refusal> {
         if altitude > 60000 {
