@@ -1,4 +1,6 @@
 // Holds the standard day's table against the formulas of the standard atmosphere.
+#![tactic(auto)]
+
 ghost use Rattle.std.specs.Prelude.{◌≡◌, ◌≤◌, unsigned_abs};
 ghost use Rattle.air.specs.Standard.{standard_density};
 
