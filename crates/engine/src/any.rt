@@ -3,6 +3,7 @@ ghost use Rattle.std.specs.Prelude.{◌≡◌};
 ghost use Rattle.engine.specs.Engines.{any_engine, engine_of};
 ghost use Rattle.engine.specs.JetLaws.{jet_laws};
 ghost use Rattle.engine.specs.TurbopropLaws.{turboprop_laws};
+ghost use Rattle.engine.specs.declared.any.AnyKind.TheVariants as any;
 
 use crate::jet::Jet;
 use crate::kind::Kind;

@@ -1,4 +1,6 @@
 // Engine kinds: what a kind is, jets and turboprops, and the engine of an aircraft.
+#![tactic(auto)]
+
 pub mod any;
 mod asked;
 pub mod examples;

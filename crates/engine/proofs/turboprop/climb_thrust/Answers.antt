@@ -6,7 +6,7 @@ use Rattle.engine.proofs.turboprop.climb_thrust.Goals as goal
 pub corrected-requires : goal.corrected-requires
 corrected-requires c =
     record {
-      thrust = propelled_high _ _ c.propeller_thrust.ensures.bound c.thrust-factor-factor.ensures.bound;
+      thrust = propelled_high _ _ c.propeller_thrust.ensures.bound c.thrust_factor-factor.ensures.bound;
       least = omega (arith, ints);
       most = omega (arith, ints);
     }
