@@ -9,7 +9,7 @@ use Rattle.engine.specs.Meaning.{KindMeaning, KindLaws, nominal_answer, idle_ans
 pub nominal_asked : (k : KindMeaning) (v n : ℕ) → 300 ≤ v → v ≤ 7000 → n ≤ 10 ^ 10 → nominal_answer k v n ≡ cond (k.refuses v) (Err Flow) (Ok (k.nominal v n))
 nominal_asked k v n slowest fastest high = rw (le-leb 300 v slowest, le-leb v 7000 fastest, le-leb n (10 ^ 10) high)
 
-made_unless : (b : Bool) (n m : ℕ) → (b ≡ false → n ≤ m) → IfOk {X = ℕ} {Y = Refusal} (cond b (Err Flow) (Ok n)) (λ x. x ≤ m)
+made_unless : (b : Bool) (n m : ℕ) → (b ≡ false → n ≤ m) → IfOk {T = ℕ} {E = Refusal} (cond b (Err Flow) (Ok n)) (λ x. x ≤ m)
 made_unless true n m h = tt
 made_unless false n m h = h refl
 

@@ -1,3 +1,5 @@
+#![tactic(auto)]
+
 mod configurations;
 mod drag;
 mod flow;

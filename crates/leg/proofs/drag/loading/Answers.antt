@@ -2,8 +2,8 @@ use Rattle.std.proofs.Common.{refl, rules}
 use Rattle.leg.proofs.Bounds.{square_high, loading_high}
 use Rattle.leg.proofs.drag.loading.Goals as goal
 
-pub overflow-mul-result-2 : goal.overflow-mul-result-2
-overflow-mul-result-2 c = search (rules, square_high)
+pub overflow_mul-result-2 : goal.overflow_mul-result-2
+overflow_mul-result-2 c = search (rules, square_high)
 
 pub returns : goal.returns
 returns c =

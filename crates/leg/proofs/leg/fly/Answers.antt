@@ -8,18 +8,18 @@ use Rattle.leg.proofs.leg.fly.Goals as goal
 pub returns : goal.returns
 returns g c =
     let r = c.args.request.now in
-    let fits : SFits w64 c.in-ok-density.deviation = search rules in
+    let fits : SFits w64 c.in_ok-density.deviation = search rules in
     c.powered.ensures
     ∙ joined c.args.aircraft.now (g.K.Kind.engine c.args.kind.now) (g.D.Day.air c.args.day.now) c.args.phase (figures_of r) c.args.mass.milligrams
-    c.in-ok-density.density c.force-force.result c.in-ok-drag.drag c.in-ok-available.available c.in-ok-density.deviation c.configuration-c.result c.coefficients.result
-    r.low c.in-ok-density.ensures c.configuration-c.ensures c.coefficients.ensures.value c.force-force.ensures.value c.in-ok-drag.ensures (simp to_z-of_z at c.in-ok-available.ensures.value)
+    c.in_ok-density.density c.force-force.result c.in_ok-drag.drag c.in_ok-available.available c.in_ok-density.deviation c.configuration-c.result c.coefficients.result
+    r.low c.in_ok-density.ensures c.configuration-c.ensures c.coefficients.ensures.value c.force-force.ensures.value c.in_ok-drag.ensures (simp to_z-of_z at c.in_ok-available.ensures.value)
 
 pub force-force-requires : goal.force-force-requires
 force-force-requires g c =
     let day = c.args.day.now in
     let r = c.args.request.now in
     record {
-      density = density_known (g.D.Day.air day) (g.met.D.Day.bounded day) r.altitude _ _ r.low c.in-ok-density.ensures;
+      density = density_known (g.D.Day.air day) (g.met.D.Day.bounded day) r.altitude _ _ r.low c.in_ok-density.ensures;
       speed = r.fastest;
       wing = c.args.aircraft.now.wing_most;
     }

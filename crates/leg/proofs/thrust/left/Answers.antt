@@ -2,8 +2,8 @@ use Rattle.std.proofs.Common.{refl, arith, rules}
 use Rattle.leg.proofs.Bounds.{left_high}
 use Rattle.leg.proofs.thrust.left.Goals as goal
 
-pub overflow-mul-result : goal.overflow-mul-result
-overflow-mul-result c = search (rules, left_high)
+pub overflow_mul-result : goal.overflow_mul-result
+overflow_mul-result c = search (rules, left_high)
 
 pub returns : goal.returns
 returns c =

@@ -3,8 +3,8 @@ use Rattle.std.proofs.lemmas.Int.{to_z-of_z}
 use Rattle.leg.proofs.Warming.{warming_small, worked, worked_is, worked_fits}
 use Rattle.leg.proofs.thrust.warmth.Goals as goal
 
-pub overflow-mul-result-2 : goal.overflow-mul-result-2
-overflow-mul-result-2 c = worked_fits c.args.t.now c.args.deviation c.requires.coldest c.requires.warmest
+pub overflow_mul-result-2 : goal.overflow_mul-result-2
+overflow_mul-result-2 c = worked_fits c.args.t.now c.args.deviation c.requires.coldest c.requires.warmest
 
 pub returns : goal.returns
 returns c =
