@@ -51,7 +51,7 @@ impl<K: Kind + Drop, D: Day + Drop> Flight<K, D> {
         calibrated: u64,
         seconds: u64,
     ) -> Result<Step, Refusal>
-        ensures { step_done result ≡ leg_outcome (setting engine air self.now.aircraft self.now.kind self.now.day) (account_of status) phase (record { altitude = altitude; speed = speed; calibrated = calibrated; seconds = seconds }) }
+        ensures { step_done result ≡ leg_outcome (setting K.engine D.air self.now.aircraft self.now.kind self.now.day) (account_of status) phase (record { altitude = altitude; speed = speed; calibrated = calibrated; seconds = seconds }) }
     {
         let phase = Phase::numbered(phase)?;
         let state = next(status.state, Call::Leg(phase))?;
@@ -76,7 +76,7 @@ impl<K: Kind + Drop, D: Day + Drop> Flight<K, D> {
         calibrated: u64,
         seconds: u64,
     ) -> Result<Flown, Refusal>
-        ensures { Made engine air self.old (Leg phase (record { altitude = altitude; speed = speed; calibrated = calibrated; seconds = seconds })) result self.new }
+        ensures { Made K.engine D.air self.old (Leg phase (record { altitude = altitude; speed = speed; calibrated = calibrated; seconds = seconds })) result self.new }
     {
         let step = self.legged(self.status, phase, altitude, speed, calibrated, seconds)?;
         self.status = step.left;
@@ -85,7 +85,7 @@ impl<K: Kind + Drop, D: Day + Drop> Flight<K, D> {
 
     // Grams of fuel put in, on stand.
     pub fn uplift(&mut self, grams: u64) -> Result<(), Refusal>
-        ensures { Made engine air self.old (Uplift grams) result self.new }
+        ensures { Made K.engine D.air self.old (Uplift grams) result self.new }
     {
         self.status = uplifted(&self.aircraft, self.status, grams)?;
         Ok(())
@@ -93,7 +93,7 @@ impl<K: Kind + Drop, D: Day + Drop> Flight<K, D> {
 
     // Grams of fuel thrown out, in the air.
     pub fn jettison(&mut self, grams: u64) -> Result<(), Refusal>
-        ensures { Made engine air self.old (Jettison grams) result self.new }
+        ensures { Made K.engine D.air self.old (Jettison grams) result self.new }
     {
         self.status = jettisoned(self.status, grams)?;
         Ok(())
@@ -101,7 +101,7 @@ impl<K: Kind + Drop, D: Day + Drop> Flight<K, D> {
 
     // Back to stand.
     pub fn touchdown(&mut self) -> Result<(), Refusal>
-        ensures { Made engine air self.old Touchdown result self.new }
+        ensures { Made K.engine D.air self.old Touchdown result self.new }
     {
         self.status = landed(self.status)?;
         Ok(())
@@ -110,7 +110,7 @@ impl<K: Kind + Drop, D: Day + Drop> Flight<K, D> {
     // Mass, fuel and minimum-fuel mark. Whatever start and calls led to this flight, they are close to the exact book of that chain.
     pub fn reading(&self) -> Reading
         ensures answer { result ≡ reading_of (account self.now) }
-        ensures claims { KeepsToTheBook engine air self.now result }
+        ensures claims { KeepsToTheBook K.engine D.air self.now result }
     {
         let Status {
             zero_fuel,

@@ -1,4 +1,6 @@
 // A flight and its calls, and how near its fuel stays to an exact book.
+#![tactic(auto)]
+
 pub mod calls;
 pub mod flight;
 pub mod hop;
