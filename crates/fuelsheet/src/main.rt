@@ -1,4 +1,6 @@
 // Reads aircraft.opf and then a script from standard input, and answers each line of it.
+#![tactic(auto)]
+
 use opf::read::{MOST_BYTES, read};
 use script::run::run;
 use sheet::fault::FaultLine;

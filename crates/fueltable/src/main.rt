@@ -1,4 +1,6 @@
 // Prints the fuel flows of an aircraft beside those of a performance table, level by level.
+#![tactic(auto)]
+
 mod column;
 mod entry;
 mod legs;

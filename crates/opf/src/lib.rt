@@ -1,4 +1,6 @@
 // Reads an aircraft file in the layout of BADA 3.10 into the aircraft record, or names its first fault.
+#![tactic(auto)]
+
 mod data;
 mod data_line;
 mod fields;

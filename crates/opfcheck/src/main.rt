@@ -1,4 +1,6 @@
 // Prints every coefficient of the aircraft files named as arguments, or each file's first fault.
+#![tactic(auto)]
+
 mod listing;
 
 use crate::listing::{FaultLine, Listing};

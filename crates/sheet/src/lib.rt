@@ -1,4 +1,6 @@
 // The fuel sheet: what each line of a script does to it, and what it answers.
+#![tactic(auto)]
+
 pub mod answer;
 mod calls;
 pub mod fault;

@@ -1,4 +1,6 @@
 // Runs the sheets named as arguments: NAME.opf with NAME.script, as the fuel sheet program would.
+#![tactic(auto)]
+
 use opf::read::{MOST_BYTES, read};
 use script::run::run;
 use sheet::fault::FaultLine;

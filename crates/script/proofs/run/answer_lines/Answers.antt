@@ -7,8 +7,8 @@ loop-init g c = keeps_itself _
 pub loop-preserved : goal.loop-preserved
 loop-preserved g c = keeps_on _ _ _ c.loop.invariant c.answer-next.ensures
 
-pub returns-in-err-answer-next : goal.returns-in-err-answer-next
-returns-in-err-answer-next g c = keeps_on _ _ _ c.loop.invariant c.answer-next.ensures
+pub returns-in_err-answer-next : goal.returns-in_err-answer-next
+returns-in_err-answer-next g c = keeps_on _ _ _ c.loop.invariant c.answer-next.ensures
 
 pub returns-then-not-branch : goal.returns-then-not-branch
 returns-then-not-branch g c = keeps_on _ _ _ c.loop.invariant c.answer-next.ensures
