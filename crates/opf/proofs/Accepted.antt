@@ -1,15 +1,14 @@
 -- What a field without a fault gives: its range, and the number that it prints.
-use Rattle.std.proofs.Common.{◌≡◌, ℕ, zero, suc, ◌+◌, ◌*◌, ◌/◌, ◌%◌, ◌^◌, ◌<◌, ◌≤◌, Bool, true, false, cond, not, ◌&&◌, ◌||◌, eqb, leb, ◌⊎◌, List, ℤ, pos, negsuc, ◌-ℤ◌, ◌*ℤ◌, neg_ℤ, ◌≤ℤ◌, is_some, Some, None, Option, unwrap_or, sym, refl, ap, ◌∙◌, subst, inl, inr, ⊎_elim, zero-mul, arith}
+use Rattle.std.proofs.Common.{◌≡◌, ℕ, zero, suc, ◌*◌, ◌/◌, ◌%◌, ◌^◌, ◌≤◌, Bool, true, false, cond, not, ◌&&◌, ◌||◌, eqb, leb, ◌⊎◌, ℤ, pos, ◌*ℤ◌, neg_ℤ, ◌≤ℤ◌, is_some, Some, None, Option, unwrap_or, sym, refl, ap, ◌∙◌, subst, inl, inr, ⊎_elim, zero-mul, arith}
 use native.Mathlib.Nat.{div-mul_cancel, dvd_of_mod-eq-zero}
 use lib.IntN.{+ℤ_idl}
 use Rattle.std.proofs.lemmas.Int.{ints}
-use Rattle.std.proofs.lemmas.Bool.{eqb-true, leb-true, cases_Bool, and_parts, or_cases, not-true}
-use Rattle.refusal.specs.declared.fault.Fault.{Fault}
+use Rattle.std.proofs.lemmas.Bool.{eqb-true, leb-true, cases_Bool, and_parts, or_cases}
 use Rattle.refusal.specs.declared.fault.Fault.TheVariants as fault
 use Rattle.opf.specs.declared.number.Number.{Number}
 use Rattle.opf.specs.declared.number.Quantity.{Quantity}
 use Rattle.opf.specs.Fields.{field}
-use Rattle.opf.specs.Numbers.{number_of, fixed_point, whole_count, raising, lowering, within, kept, natural_from, natural_in, signed_value, signed_from, signed_in}
+use Rattle.opf.specs.Numbers.{number_of, fixed_point, whole_count, raising, lowering, within, natural_from, natural_in, signed_value, signed_from, signed_in}
 use Rattle.opf.specs.DataLines.{Fields, bound, number_fault, natural_fault, natural, signed_fault, integer}
 use Rattle.opf.specs.Printed.{IsNumber, Prints, PrintsCount}
 

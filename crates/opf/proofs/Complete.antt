@@ -1,5 +1,5 @@
 -- A file without a fault gives a plain record within its ranges, and an aircraft with these values is what the file prints.
-use Rattle.std.proofs.Common.{◌≡◌, ℕ, ◌+◌, ◌-◌, ◌<◌, ◌≤◌, Bool, true, false, cond, ◌&&◌, leb, List, [], ◌∷◌, length, get_or, take, ℤ, pos, ◌≤ℤ◌, is_some, Some, None, Ok, Err, Option, unwrap_or, sym, refl, ap, ◌∙◌, subst, arith}
+use Rattle.std.proofs.Common.{◌≡◌, ℕ, ◌-◌, ◌≤◌, Bool, true, leb, List, [], ◌∷◌, length, get_or, take, ℤ, is_some, Some, None, Ok, Option, unwrap_or, sym, refl, ap, ◌∙◌, subst, arith}
 use Rattle.std.proofs.lemmas.List.{get_or-take}
 use Rattle.std.proofs.lemmas.Int.{ints}
 use Rattle.std.proofs.lemmas.Bool.{leb-true, le-leb, and_parts}
@@ -23,9 +23,9 @@ use Rattle.opf.specs.declared.number.Quantity.{Quantity}
 use Rattle.opf.specs.Faults.{unless, or_else, first_of, judge}
 use Rattle.opf.specs.Text.{lines}
 use Rattle.opf.specs.Fields.{field}
-use Rattle.opf.specs.DataLines.{Fields, nth_line, natural, integer, engine_of, masses_of, in_order, thrust_of, thrust_faults, ctc3_fault, row_of, row_from, line_naming, configuration_lines, configuration_of, parasitic, one_faults, two_faults}
+use Rattle.opf.specs.DataLines.{Fields, nth_line, natural, engine_of, masses_of, in_order, thrust_of, thrust_faults, ctc3_fault, row_from, line_naming, configuration_lines, parasitic, one_faults, two_faults}
 use Rattle.opf.specs.Files.{draft_of, lines_fault, data_lines, read_file}
-use Rattle.opf.specs.Records.{values_of, thrust_values, row_values, Ranged, RangedMasses, RangedRow, RangedThrust, RangedTemperature}
+use Rattle.opf.specs.Records.{values_of, thrust_values, row_values, Ranged, RangedRow, RangedThrust}
 use Rattle.opf.specs.Printed.{Prints, PrintsCount, line_of, RowPrinted, ThrustPrinted, Printed}
 use Rattle.opf.specs.Quantities as quantity
 use Rattle.opf.proofs.Accepted.{NaturalRead, natural_clear, IntegerRead, integer_clear}

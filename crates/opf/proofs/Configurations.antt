@@ -1,5 +1,5 @@
 -- Every configuration has its line, within range.
-use Rattle.std.proofs.Common.{◌≡◌, ℕ, zero, suc, ◌+◌, ◌-◌, ◌<◌, ◌≤◌, Bool, true, false, cond, ◌&&◌, leb, ◌⊎◌, List, [], ◌∷◌, ◌++◌, length, get_or, take, drop, is_some, Some, None, Option, unwrap_or, sym, refl, ap, ◌∙◌, subst, inl, inr, ⊎_elim, add-one, arith, length-drop, length-take}
+use Rattle.std.proofs.Common.{◌≡◌, ℕ, zero, suc, ◌+◌, ◌-◌, ◌<◌, ◌≤◌, Bool, true, false, cond, ◌&&◌, leb, List, [], ◌∷◌, ◌++◌, length, get_or, take, drop, is_some, Some, None, Option, sym, refl, ap, ◌∙◌, subst, ⊎_elim, add-one, arith, length-drop, length-take}
 use Rattle.std.proofs.lemmas.List.{take_more, take_all, drop-take, length-take-le, get_or-drop, get_or-take}
 use Rattle.std.proofs.lemmas.Bool.{cases_Bool, cond-true, cond-false, and_from, le-leb}
 use Rattle.std.proofs.lemmas.Slice.Eq.{bytes_eq-Decides}
@@ -9,13 +9,11 @@ use Rattle.aircraft.specs.declared.words.Configuration.TheVariants as flaps
 use Rattle.aircraft.specs.Words.{configuration_word, configuration_named}
 use Rattle.opf.specs.Faults.{first_of}
 use Rattle.opf.specs.Fields.{field}
-use Rattle.opf.specs.DataLines.{Fields, engine_of, nth_line, names, line_naming, configuration_of, configuration_lines, came, row_of, row_from, row_faults, natural, parasitic}
-use Rattle.opf.specs.Records.{RangedRow}
-use Rattle.opf.specs.Printed.{line_of, PrintsCount}
+use Rattle.opf.specs.DataLines.{Fields, engine_of, nth_line, names, line_naming, configuration_of, configuration_lines, came, row_faults, parasitic}
 use Rattle.opf.specs.Quantities as quantity
-use Rattle.opf.proofs.Accepted.{NaturalRead, natural_clear, some_is_not_none}
+use Rattle.opf.proofs.Accepted.{NaturalRead, natural_clear}
 use Rattle.opf.proofs.Drafts.{none_first, new_named, naming_more, naming_same, names_are, faults_inside}
-use Rattle.opf.proofs.Judged.{Whole, line_clear}
+use Rattle.opf.proofs.Judged.{Whole}
 
 -- How many configurations some lines name.
 

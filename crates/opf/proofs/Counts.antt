@@ -1,12 +1,12 @@
 -- Digits one by one, and powers of ten in a number's value.
-use Rattle.std.proofs.Common.{◌≡◌, ℕ, zero, suc, ◌+◌, ◌-◌, ◌*◌, ◌/◌, ◌%◌, ◌^◌, ◌<◌, ◌≤◌, Bool, true, false, cond, not, ◌&&◌, ◌||◌, eqb, leb, ◌⊎◌, List, length, get_or, drop, Some, None, Option, sym, refl, ap, ◌∙◌, inl, inr, ⊎_elim, add-zero, mod-eq_of_lt, zero-lt-suc, mul_assoc, mul_comm, mul-le-mul, mul-pos, pow-suc, zero-mul, mul-one, div-one, mul-div_cancel, add-one, arith, pow-add}
-use native.Mathlib.Nat.{mul-mod_left, mul-div-mul_right, zero-mod, zero-div, mod-one, pow-le-pow_right}
+use Rattle.std.proofs.Common.{◌≡◌, ℕ, zero, suc, ◌+◌, ◌-◌, ◌*◌, ◌/◌, ◌%◌, ◌^◌, ◌<◌, ◌≤◌, Bool, true, false, cond, not, ◌&&◌, ◌||◌, eqb, leb, ◌⊎◌, List, length, get_or, drop, Some, None, Option, sym, refl, ap, ◌∙◌, ⊎_elim, add-zero, mod-eq_of_lt, zero-lt-suc, mul_assoc, mul_comm, mul-le-mul, mul-pos, pow-suc, zero-mul, mul-div_cancel, add-one, arith, pow-add}
+use native.Mathlib.Nat.{mul-mod_left, mul-div-mul_right, zero-mod, zero-div, pow-le-pow_right}
 use lib.Arith.{mod-mul}
 use Rattle.std.proofs.lemmas.List.{drop_more}
 use Rattle.std.proofs.lemmas.Bool.{eq-eqb, ne_eqb, le-leb, lt-leb, leb-true, and_left, and_right, cases_Bool}
 use Rattle.std.proofs.lemmas.Bool.Decides.{nat_tests}
 use Rattle.opf.specs.declared.number.Quantity.{Quantity}
-use Rattle.opf.specs.Numbers.{digit, digits_of, fixed_point, kept, within, natural_from, signed_from, signed_value}
+use Rattle.opf.specs.Numbers.{digit, digits_of, fixed_point, within, natural_from, signed_from, signed_value}
 use Rattle.opf.specs.Counts.{at_most}
 
 pub digits_yes : (n i : ℕ) (s : List ℕ) → i < length s → 48 ≤ get_or s i 0 → get_or s i 0 ≤ 57 → digits_of (n * 10 + (get_or s i 0 - 48)) (drop (i + 1) s) ≡ digits_of n (drop i s)

@@ -1,5 +1,5 @@
 -- The plain record one data line further.
-use Rattle.std.proofs.Common.{◌≡◌, ℕ, zero, suc, ◌+◌, ◌-◌, ◌<◌, ◌≤◌, Bool, true, false, cond, not, ◌&&◌, eqb, leb, ◌⊎◌, List, [], ◌∷◌, ◌++◌, length, get_or, take, drop, set, ℤ, pos, is_some, Some, None, Option, sym, refl, ap, ◌∙◌, inl, inr, ⊎_elim, arith, length-append, length-drop}
+use Rattle.std.proofs.Common.{◌≡◌, ℕ, ◌+◌, ◌-◌, ◌<◌, ◌≤◌, Bool, true, false, cond, ◌&&◌, eqb, leb, List, [], ◌∷◌, ◌++◌, length, take, drop, set, is_some, Some, None, Option, sym, refl, ap, ◌∙◌, ⊎_elim, arith, length-drop}
 use mathlib.Core.Path.{fun_ext}
 use Rattle.std.specs.Str.{bytes_eq}
 use Rattle.std.proofs.lemmas.Slice.Eq.{bytes_eq-Decides}
@@ -13,12 +13,11 @@ use Rattle.aircraft.specs.declared.words.Configuration.{Configuration}
 use Rattle.aircraft.specs.declared.words.Configuration.TheVariants as flaps
 use Rattle.aircraft.specs.declared.draft.Draft.{Draft}
 use Rattle.aircraft.specs.declared.draft.DraftRow.{DraftRow}
-use Rattle.aircraft.specs.Drafts.{no_row}
-use Rattle.aircraft.specs.Words.{configuration_word, configuration_row, configuration_named, first_named}
+use Rattle.aircraft.specs.Words.{configuration_word, configuration_row, first_named}
 use Rattle.opf.specs.Faults.{or_else, first_of}
 use Rattle.opf.specs.Fields.{field}
 use Rattle.opf.specs.Numbers.{number_of}
-use Rattle.opf.specs.DataLines.{Fields, natural, integer, nth_line, engine_of, masses_of, configuration_of, configuration_lines, names, line_naming, row_of, row_from, came, new_fault, configuration_faults, thrust_of, ctc3_of, descent_of, consumption_of, idle_of, faults_at, data_fault}
+use Rattle.opf.specs.DataLines.{Fields, natural, integer, nth_line, engine_of, masses_of, configuration_of, configuration_lines, names, line_naming, row_of, row_from, came, new_fault, configuration_faults, thrust_of, descent_of, consumption_of, idle_of, faults_at, data_fault}
 use Rattle.opf.specs.Files.{draft_of}
 use Rattle.opf.specs.Steps.{filled, rows_with, after_line}
 use Rattle.opf.specs.Quantities as quantity

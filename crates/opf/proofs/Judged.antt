@@ -1,14 +1,14 @@
 -- In a file without a fault there are 22 data lines, and none has a fault.
-use Rattle.std.proofs.Common.{◌≡◌, ℕ, zero, suc, ◌+◌, ◌-◌, ◌<◌, ◌≤◌, Bool, true, false, cond, leb, ◌⊎◌, List, [], ◌∷◌, ◌++◌, length, get_or, take, drop, Some, None, Option, sym, refl, ap, ◌∙◌, subst, inl, inr, ⊎_elim, arith}
-use Rattle.std.proofs.lemmas.List.{append_assoc, append-nil, take-append-le, take_at, get_or_append_left, get_or_push, length_push, length-take-le, get_or-take}
-use Rattle.std.proofs.lemmas.Bool.{leb-true, cases_Bool, cases_lt}
+use Rattle.std.proofs.Common.{◌≡◌, ℕ, ◌+◌, ◌-◌, ◌<◌, ◌≤◌, Bool, true, false, cond, leb, List, [], ◌∷◌, ◌++◌, length, get_or, take, Some, None, Option, sym, refl, ap, ◌∙◌, subst, ⊎_elim, arith}
+use Rattle.std.proofs.lemmas.List.{append_assoc, append-nil, take-append-le, take_at, get_or_append_left, get_or_push, length_push, length-take-le}
+use Rattle.std.proofs.lemmas.Bool.{leb-true, cases_lt}
 use Rattle.refusal.specs.declared.fault.Fault.{Fault}
 use Rattle.refusal.specs.declared.fault.Fault.TheVariants as fault
-use Rattle.opf.specs.Faults.{unless, or_else, first_of}
+use Rattle.opf.specs.Faults.{unless, first_of}
 use Rattle.opf.specs.Text.{text_fault, line_of, Line, comment, data_line, last}
 use Rattle.opf.specs.Fields.{fields}
 use Rattle.opf.specs.DataLines.{Fields, nth_line, engine_of, came, faults_at, data_fault}
-use Rattle.opf.specs.Files.{by_line, own_fields, is_end, data_lines, line_fault, blank, lines_fault}
+use Rattle.opf.specs.Files.{by_line, data_lines, line_fault, blank, lines_fault}
 use Rattle.opf.proofs.Accepted.{some_is_not_none}
 use Rattle.opf.proofs.Drafts.{none_first}
 use Rattle.opf.proofs.Files.{blank_has_none}

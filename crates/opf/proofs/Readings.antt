@@ -1,5 +1,5 @@
 -- A number field by its form and its value.
-use Rattle.std.proofs.Common.{◌≡◌, ℕ, Some, None, Option, unwrap_or, sym, refl, ap, ◌∙◌}
+use Rattle.std.proofs.Common.{◌≡◌, ℕ, Some, None, Option, unwrap_or, sym, ap, ◌∙◌}
 use Rattle.refusal.specs.declared.fault.Fault.TheVariants as fault
 use Rattle.opf.specs.declared.number.Number.{Number}
 use Rattle.opf.specs.DataLines.{number_fault, bound}

@@ -1,5 +1,5 @@
 -- The values of an aircraft record as a plain record, and the ranges that a plain record keeps once it is read.
-use Rattle.std.specs.Prelude.{◌≡◌, ◌≤◌, true, List, [], ◌∷◌, get_or, pos, negsuc, ◌≤ℤ◌, Ok, Err, Result, slice_index_or}
+use Rattle.std.specs.Prelude.{◌≡◌, ◌≤◌, true, List, [], ◌∷◌, pos, negsuc, ◌≤ℤ◌, Ok, Err, Result, slice_index_or}
 use Rattle.refusal.specs.declared.fault.Fault.{Fault}
 use Rattle.aircraft.specs.declared.words.EngineType.{EngineType}
 use Rattle.aircraft.specs.declared.words.EngineType.TheVariants as engine
@@ -91,7 +91,7 @@ pub record RangedRows (rows : List DraftRow) : Type 0 where
   pub takeoff : RangedRow (slice_index_or rows 2 no_row)
   pub approach : RangedRow (slice_index_or rows 3 no_row)
   pub landing : RangedRow (slice_index_or rows 4 no_row)
-  pub clean : 100000 ≤ (get_or rows 0 no_row).cd0
+  pub clean : 100000 ≤ (slice_index_or rows 0 no_row).cd0
 
 pub record RangedDescent (d : DraftDescent) : Type 0 where
   pub low : d.low ≤ 100000000

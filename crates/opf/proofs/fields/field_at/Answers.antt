@@ -10,12 +10,12 @@ returns-in-None c =
 pub loop-i-preserved : goal.loop-i-preserved
 loop-i-preserved c = left_next (runs c.args.s.now) _ _ c.loop-i.i (c.loop-i.invariant ∙ c.in-Some.ensures.0)
 
-pub returns-in-Some-first-field : goal.returns-in-Some-first-field
-returns-in-Some-first-field c =
+pub returns-in-Some-first_field : goal.returns-in-Some-first_field
+returns-in-Some-first_field c =
     let ended : c.loop-i.i ≡ c.args.k = omega arith in
-    left_here (runs c.args.s.now) _ _ c.loop-i.i (c.loop-i.invariant ∙ c.in-Some-first-field.ensures.0)
+    left_here (runs c.args.s.now) _ _ c.loop-i.i (c.loop-i.invariant ∙ c.in-Some-first_field.ensures.0)
     ∙ ap (λ (k : ℕ). get_or (runs c.args.s.now) k []) ended
 
-pub returns-in-None-first-field : goal.returns-in-None-first-field
-returns-in-None-first-field c =
-    left_none (runs c.args.s.now) c.loop-i.i c.args.k (omega arith) (c.loop-i.invariant ∙ c.in-None-first-field.ensures)
+pub returns-in-None-first_field : goal.returns-in-None-first_field
+returns-in-None-first_field c =
+    left_none (runs c.args.s.now) c.loop-i.i c.args.k (omega arith) (c.loop-i.invariant ∙ c.in-None-first_field.ensures)

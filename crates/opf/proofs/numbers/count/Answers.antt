@@ -17,18 +17,18 @@ returns-then-x-eq0 c =
 pub returns-then-up-down : goal.returns-then-up-down
 returns-then-up-down c =
     record {
-      value = c.times-ten.ensures.value
+      value = c.times_ten.ensures.value
           ∙ ap (at_most c.args.high)
           (raised_count c.args.x.digits c.raised-up.result c.lowered-down.result (raising c.args.decimals c.args.x) (lowering c.args.x) c.raised-up.ensures.value c.lowered-down.ensures.value c.if-up-down.true);
-      bound = c.times-ten.ensures.bound;
+      bound = c.times_ten.ensures.bound;
     }
 
 pub returns : goal.returns
 returns c =
     let less : c.raised-up.result ≤ c.lowered-down.result = omega arith in
     record {
-      value = c.over-ten.ensures.value
+      value = c.over_ten.ensures.value
           ∙ ap (at_most c.args.high)
           (lowered_count c.args.x.digits c.raised-up.result c.lowered-down.result (raising c.args.decimals c.args.x) (lowering c.args.x) c.raised-up.ensures.value c.lowered-down.ensures.value less);
-      bound = c.over-ten.ensures.bound;
+      bound = c.over_ten.ensures.bound;
     }

@@ -1,4 +1,4 @@
-use Rattle.std.proofs.Common.{◌≡◌, ℕ, ◌%◌, ◌≤◌, arith}
+use Rattle.std.proofs.Common.{arith}
 use Rattle.opf.proofs.Counts.{ten_pos, lowered_past, lowered_broken, lowered_over, lowered_kept}
 use Rattle.opf.proofs.numbers.over_ten.Goals as goal
 
@@ -6,8 +6,8 @@ pub returns-then-n-gt5 : goal.returns-then-n-gt5
 returns-then-n-gt5 c =
     record { value = lowered_past c.args.digits c.args.n c.args.high c.requires.some c.requires.five c.if-n-gt5.true; bound = tt }
 
-pub nonzero-rem-d : goal.nonzero-rem-d
-nonzero-rem-d c = omega (arith, ten_pos c.args.n, c.pow-power.ensures)
+pub nonzero_rem-d : goal.nonzero_rem-d
+nonzero_rem-d c = omega (arith, ten_pos c.args.n, c.pow-power.ensures)
 
 pub returns-then-d-power-ne0 : goal.returns-then-d-power-ne0
 returns-then-d-power-ne0 c =

@@ -6,8 +6,8 @@ pub returns-then-n-gt11 : goal.returns-then-n-gt11
 returns-then-n-gt11 c =
     record { value = raised_past c.args.digits c.args.n c.args.high c.requires.some c.requires.most c.if-n-gt11.true; bound = tt }
 
-pub overflow-mul-v : goal.overflow-mul-v
-overflow-mul-v c = omega (arith, raised_fits c.args.digits c.args.n c.pow.result c.requires.five c.if-n-gt11.false c.pow.ensures)
+pub overflow_mul-v : goal.overflow_mul-v
+overflow_mul-v c = omega (arith, raised_fits c.args.digits c.args.n c.pow.result c.requires.five c.if-n-gt11.false c.pow.ensures)
 
 pub returns-then-v-high : goal.returns-then-v-high
 returns-then-v-high c =

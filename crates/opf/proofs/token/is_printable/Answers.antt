@@ -6,12 +6,12 @@ use Rattle.opf.proofs.token.is_printable.Goals as goal
 
 pub loop-b-preserved : goal.loop-b-preserved
 loop-b-preserved c =
-    every_more printable c.args.line.now c.loop-b.b-index c.loop-b-test.true (sym c.if-not-is-allowed.ensures)
+    every_more printable c.args.line.now c.loop-b.b-index c.loop-b-test.true (sym c.if-not-is_allowed.ensures)
     ∙ c.loop-b.invariant
 
-pub returns-then-not-is-allowed : goal.returns-then-not-is-allowed
-returns-then-not-is-allowed c =
-    sym (every_stops printable c.args.line.now c.loop-b.b-index c.loop-b-test.true (sym c.if-not-is-allowed.ensures))
+pub returns-then-not-is_allowed : goal.returns-then-not-is_allowed
+returns-then-not-is_allowed c =
+    sym (every_stops printable c.args.line.now c.loop-b.b-index c.loop-b-test.true (sym c.if-not-is_allowed.ensures))
     ∙ c.loop-b.invariant
 
 pub returns : goal.returns

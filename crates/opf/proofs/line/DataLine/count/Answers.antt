@@ -6,14 +6,14 @@ use Rattle.opf.specs.DataLines.{natural_fault, natural}
 use Rattle.opf.proofs.Readings.{without_form, without_value, with_value}
 use Rattle.opf.proofs.line.DataLine.count.Goals as goal
 
-pub returns-in-default : goal.returns-in-default
+pub returns-in_default : goal.returns-in_default
 unfolding natural_fault
-returns-in-default c =
+returns-in_default c =
     let o = number_of (field (line_fields c.args.self.now) c.args.k) in
     record {
       judged =
           without_form c.args.self.now.number c.args.k (natural_in c.args.q) o
-          (c.in-default.ensures.value ∙ ap number_of c.field.ensures);
+          (c.in_default.ensures.value ∙ ap number_of c.field.ensures);
       bound = tt;
     }
 

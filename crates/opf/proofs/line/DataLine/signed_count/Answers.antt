@@ -7,12 +7,12 @@ use Rattle.opf.specs.DataLines.{signed_fault, integer}
 use Rattle.opf.proofs.Readings.{without_form, without_value, with_value}
 use Rattle.opf.proofs.line.DataLine.signed_count.Goals as goal
 
-pub returns-in-default : goal.returns-in-default
+pub returns-in_default : goal.returns-in_default
 unfolding signed_fault
-returns-in-default c =
+returns-in_default c =
     let o = number_of (field (line_fields c.args.self.now) c.args.k) in
     without_form c.args.self.now.number c.args.k (signed_in c.args.q) o
-    (c.in-default.ensures.value ∙ ap number_of c.field.ensures)
+    (c.in_default.ensures.value ∙ ap number_of c.field.ensures)
 
 pub returns-in-Some-signed : goal.returns-in-Some-signed
 unfolding signed_fault integer
