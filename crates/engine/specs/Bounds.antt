@@ -1,12 +1,11 @@
 -- How large the whole_number formulas get within the ranges of the coefficients.
-use Rattle.std.specs.Prelude.{ℕ, ◌+◌, ◌-◌, ◌*◌, ◌/◌, ◌^◌, ◌≤◌}
+use Rattle.std.specs.Prelude.{ℕ, ◌-◌, ◌*◌, ◌/◌, ◌^◌, ◌≤◌}
 use Rattle.std.proofs.Common.{mul-le-mul, mul-le-mul_left, sub-le, arith}
 use Rattle.std.proofs.Math.Nat.{div-le_of_le-mul}
 use Rattle.aircraft.specs.declared.record.Fuel.{Fuel}
 use Rattle.aircraft.specs.declared.record.JetCoefficients.{JetCoefficients}
 use Rattle.aircraft.specs.declared.record.TurbopropCoefficients.{TurbopropCoefficients}
-use Rattle.engine.specs.Formulas.{thrust_factor, flow_of, idle_flow}
-use Rattle.engine.specs.Jets.{jet_rise, jet_thrust}
+use Rattle.engine.specs.Jets.{jet_rise}
 use Rattle.engine.specs.Turboprops.{propeller_thrust, propeller_consumption}
 
 pub product : {a b : ℕ} (m n : ℕ) → a ≤ m → b ≤ n → a * b ≤ m * n

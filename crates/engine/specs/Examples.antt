@@ -1,11 +1,9 @@
 -- Two engines at which exact values are fractions, and the answered ones are not.
-use Rattle.std.specs.Prelude.{◌≡◌, negsuc, ◌≤ℤ◌}
+use Rattle.std.specs.Prelude.{◌≡◌, negsuc}
 use Rattle.std.proofs.Common.{arith}
 use Rattle.exact.specs.Rational.{nat, ◌÷ℚ◌, ◌≈◌}
-use Rattle.aircraft.specs.declared.record.Fuel.{Fuel}
 use Rattle.aircraft.specs.declared.record.JetCoefficients.{JetCoefficients}
 use Rattle.aircraft.specs.declared.record.TurbopropCoefficients.{TurbopropCoefficients}
-use Rattle.engine.specs.Meaning.{KindMeaning}
 use Rattle.engine.specs.Jets.{jet_engine}
 use Rattle.engine.specs.Turboprops.{turboprop_engine}
 

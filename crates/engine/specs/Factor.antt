@@ -1,7 +1,7 @@
 -- The thrust factor is close to its exact value, which is not negative.
-use Rattle.std.specs.Prelude.{◌≡◌, ℕ, ◌+◌, ◌-◌, ◌*◌, ◌/◌, ◌^◌, ◌<◌, ◌≤◌}
+use Rattle.std.specs.Prelude.{ℕ, ◌+◌, ◌*◌, ◌/◌, ◌^◌, ◌<◌}
 use Rattle.std.proofs.Common.{arith}
-use Rattle.exact.specs.Rational.{ℚ, nat, ◌+ℚ◌, ◌-ℚ◌, ◌÷ℚ◌, maxℚ, ◌≤ℚ◌, Near}
+use Rattle.exact.specs.Rational.{ℚ, nat, ◌≤ℚ◌, Near}
 use Rattle.exact.proofs.Laws.{≈_refl, ≈_trans, nat-≥0, nat-+, nat_monus, max-≈, −-≈, left_max, near-≈, near_same, near_weaken, near-+, near-−, near_max_with, near_floor}
 use Rattle.engine.specs.Formulas.{thrust_factor, exact_thrust_factor}
 

@@ -1,13 +1,13 @@
 -- The laws of nominal and idle flow, for any specific consumption that is within 2 of its exact value.
-use Rattle.std.specs.Prelude.{◌≡◌, ℕ, ◌+◌, ◌-◌, ◌*◌, ◌/◌, ◌^◌, ◌<◌, ◌≤◌, false, List, [], ◌∷◌}
+use Rattle.std.specs.Prelude.{ℕ, ◌-◌, ◌*◌, ◌^◌, ◌≤◌, [], ◌∷◌}
 use Rattle.std.proofs.Common.{sub-le, arith}
-use Rattle.exact.specs.Rational.{ℚ, nat, ◌+ℚ◌, ◌-ℚ◌, ◌*ℚ◌, ◌÷ℚ◌, maxℚ, ◌≤ℚ◌, Near}
-use Rattle.exact.proofs.Laws.{≤_trans, ≈_refl, ≈_sym, ≈→≤, nat-<, nat-≥0, nat-≤, nat_monus, *_comm, *-−, *-≥0, *_mono_left, *_mono₂, ÷-≤, ÷-≥0, ÷_mono, shrink, left_max, near_same}
-use Rattle.exact.proofs.Linear.{linear, at, con, ◌⊕◌, ◌⊖◌, ◌⊛◌, ◌≼◌, ◌≋◌}
+use Rattle.exact.specs.Rational.{ℚ, nat, ◌-ℚ◌, ◌*ℚ◌, ◌÷ℚ◌, ◌≤ℚ◌, Near}
+use Rattle.exact.proofs.Laws.{≤_trans, ≈→≤, nat-<, nat-≥0, nat_monus, *_comm, *-−, *-≥0, *_mono_left, *_mono₂, ÷-≤, ÷-≥0, ÷_mono, shrink, left_max, near_same}
+use Rattle.exact.proofs.Linear.{linear, at, con, ◌⊖◌, ◌⊛◌, ◌≼◌, ◌≋◌}
 use Rattle.aircraft.specs.declared.record.Fuel.{Fuel}
 use Rattle.engine.specs.Formulas.{flow_of, exact_flow_of, idle_flow, exact_idle_flow}
 use Rattle.engine.specs.Bounds.{product, quotient, share}
-use Rattle.engine.specs.Rounding.{near_times, times_near, near_high}
+use Rattle.engine.specs.Rounding.{near_times, times_near}
 
 pub flow_high : (e n : ℕ) → e ≤ 400000000 → n ≤ 10 ^ 10 → flow_of e n ≤ 10 ^ 11
 flow_high e n p q = quotient (e * n) (10 ^ 8) (10 ^ 11) (omega (arith, product 400000000 (10 ^ 10) p q))

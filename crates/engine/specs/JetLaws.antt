@@ -1,7 +1,7 @@
 -- A jet keeps the laws of a kind.
-use Rattle.std.specs.Prelude.{ℕ, ◌+◌, ◌*◌, ◌/◌, ◌^◌, ◌<◌, ◌≤◌}
+use Rattle.std.specs.Prelude.{ℕ, ◌+◌, ◌*◌, ◌^◌, ◌≤◌}
 use Rattle.std.proofs.Common.{arith}
-use Rattle.exact.specs.Rational.{ℚ, nat, ◌*ℚ◌, ◌÷ℚ◌, ◌≤ℚ◌, Near}
+use Rattle.exact.specs.Rational.{nat, ◌*ℚ◌, ◌≤ℚ◌, Near}
 use Rattle.exact.proofs.Laws.{nat-<, nat-≥0, nat-≤, *-≥0, ÷-≥0, near_weaken, near_floor}
 use Rattle.aircraft.specs.declared.record.Fuel.{Fuel}
 use Rattle.aircraft.specs.declared.record.JetCoefficients.{JetCoefficients}
@@ -11,7 +11,7 @@ use Rattle.engine.specs.Jets.{jet_rise, exact_jet_rise, jet_thrust, exact_jet_th
 use Rattle.engine.specs.Bounds.{product, quotient, rise_high}
 use Rattle.engine.specs.Rounding.{times_near}
 use Rattle.engine.specs.Factor.{factor_near, factor_low}
-use Rattle.engine.specs.Laws.{ThrustClose, ConsumptionClose, burning_laws}
+use Rattle.engine.specs.Laws.{burning_laws}
 
 rise_near : (c : JetCoefficients) (h : ℕ) → Near (nat (jet_rise c h)) (exact_jet_rise c h) (nat 1)
 unfolding exact_jet_rise

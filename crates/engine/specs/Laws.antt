@@ -1,10 +1,10 @@
 -- The laws of a kind by formulas: from its thrust and its specific consumption to all the laws of a kind.
-use Rattle.std.specs.Prelude.{◌≡◌, ℕ, ◌+◌, ◌^◌, ◌<◌, ◌≤◌, false}
+use Rattle.std.specs.Prelude.{◌≡◌, ℕ, ◌^◌, ◌≤◌, false}
 use Rattle.std.proofs.Common.{arith, ltb-false}
 use Rattle.exact.specs.Rational.{ℚ, nat, ◌≤ℚ◌, Near}
-use Rattle.exact.proofs.Laws.{≤_trans, near_weaken, nat-≤}
+use Rattle.exact.proofs.Laws.{near_weaken, nat-≤}
 use Rattle.aircraft.specs.declared.record.Fuel.{Fuel}
-use Rattle.engine.specs.Meaning.{KindMeaning, KindLaws}
+use Rattle.engine.specs.Meaning.{KindLaws}
 use Rattle.engine.specs.Formulas.{burning, too_thirsty}
 use Rattle.engine.specs.Rounding.{near_high}
 use Rattle.engine.specs.Flows.{flow_high, flow_near, exact_flow_low, exact_flow_rises, exact_flow_high, exact_flow_gains, idle_high, exact_idle_low, idle_near}

@@ -1,5 +1,5 @@
 -- How a rounding error passes through a quotient and a multiple, and bounds of an exact value by the rounded one.
-use Rattle.std.specs.Prelude.{◌≡◌, ℕ, ◌+◌, ◌*◌, ◌/◌, ◌<◌, ◌≤◌, List, [], ◌∷◌}
+use Rattle.std.specs.Prelude.{ℕ, ◌+◌, ◌*◌, ◌/◌, ◌<◌, ◌≤◌, [], ◌∷◌}
 use Rattle.std.proofs.Common.{subst, mul_comm, arith}
 use Rattle.exact.specs.Rational.{ℚ, nat, ◌+ℚ◌, ◌-ℚ◌, ◌*ℚ◌, ◌÷ℚ◌, ◌≤ℚ◌, Near}
 use Rattle.exact.proofs.Laws.{≤_trans, ≈_refl, ≈→≥, nat-<, nat-≥0, nat-*, *_comm, ÷-≤, ÷-≈, near_out, near-≈, near_weaken, near-*, near_floor_of}

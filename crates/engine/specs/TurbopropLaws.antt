@@ -1,7 +1,7 @@
 -- A turboprop keeps the laws of a kind.
-use Rattle.std.specs.Prelude.{ℕ, ◌+◌, ◌-◌, ◌*◌, ◌/◌, ◌^◌, ◌<◌, ◌≤◌, List, [], ◌∷◌, ℤ, pos, negsuc, ◌+ℤ◌}
+use Rattle.std.specs.Prelude.{ℕ, ◌*◌, ◌/◌, ◌^◌, ◌≤◌, [], ◌∷◌, ℤ, pos, negsuc, ◌+ℤ◌}
 use Rattle.std.proofs.Common.{sub-le, arith}
-use Rattle.exact.specs.Rational.{ℚ, nat, int, ◌+ℚ◌, ◌-ℚ◌, ◌*ℚ◌, ◌÷ℚ◌, maxℚ, ◌≤ℚ◌, ◌≈◌, Near}
+use Rattle.exact.specs.Rational.{nat, int, ◌+ℚ◌, ◌-ℚ◌, ◌*ℚ◌, maxℚ, ◌≤ℚ◌, ◌≈◌, Near}
 use Rattle.exact.proofs.Laws.{≤_trans, ≈_refl, ≈_trans, ≈→≤, nat-<, nat-≥0, nat-≤, ≤_nat, nat-*, nat_monus, int-+, int-≤, +_mono, *_comm, *-≥0, ÷-≥0, left_max, max-≈, max-≤, near-≈, near_same, near_weaken, near-+, near_product, near_max_with, near_floor}
 use Rattle.exact.proofs.Linear.{linear, at, con, ◌⊕◌, ◌⊛◌, ◌≼◌, ◌≋◌}
 use Rattle.aircraft.specs.declared.record.Fuel.{Fuel}
@@ -11,8 +11,8 @@ use Rattle.engine.specs.Formulas.{thrust_factor, exact_thrust_factor}
 use Rattle.engine.specs.Turboprops.{not_below_zero, propeller_thrust, exact_propeller_thrust, turboprop_thrust, exact_turboprop_thrust, propeller_consumption, exact_propeller_consumption, turboprop_consumption, exact_turboprop_consumption, turboprop_engine}
 use Rattle.engine.specs.Bounds.{propeller_thrust_high, propelled_high}
 use Rattle.engine.specs.Rounding.{near_over, near_times, times_near, near_high}
-use Rattle.engine.specs.Factor.{factor_near, factor_low}
-use Rattle.engine.specs.Laws.{ThrustClose, ConsumptionClose, burning_laws}
+use Rattle.engine.specs.Factor.{factor_near}
+use Rattle.engine.specs.Laws.{burning_laws}
 
 above_zero : (z : ℤ) → nat (not_below_zero z) ≈ maxℚ (nat 0) (int z)
 above_zero (pos n) = omega arith

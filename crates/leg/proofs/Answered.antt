@@ -1,13 +1,11 @@
 -- What an answer tells: figures that are taken are in range; an accepted leg is lifted, its flow is not refused, and it is flown over its own drag pair.
-use Rattle.std.proofs.Common.{◌≡◌, ℕ, ◌+◌, ◌*◌, ◌^◌, ◌≤◌, Bool, true, false, cond, leb, Ok, Err, Result, sym, refl, arith}
+use Rattle.std.proofs.Common.{◌≡◌, ℕ, ◌*◌, ◌^◌, ◌≤◌, Bool, true, false, cond, leb, Ok, Err, Result, refl, arith}
 use Rattle.std.proofs.lemmas.Bool.{leb-true, and_parts}
 use Rattle.refusal.specs.declared.refusal.Refusal.{Refusal}
 use Rattle.refusal.specs.declared.refusal.Refusal.TheVariants.{Altitude, Speed, Calibrated, Seconds, Lift, Flow}
 use Rattle.aircraft.specs.declared.record.Aircraft.{Aircraft}
-use Rattle.aircraft.specs.declared.record.Rows.{Rows}
 use Rattle.aircraft.specs.declared.words.Configuration.{Configuration}
 use Rattle.aircraft.specs.declared.words.Configuration.TheVariants as flaps
-use Rattle.aircraft.specs.Values.{row_of}
 use Rattle.air.specs.Day.{Air}
 use Rattle.engine.specs.Meaning.{KindMeaning}
 use Rattle.leg.specs.declared.phase.Phase.{Phase}

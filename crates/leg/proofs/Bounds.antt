@@ -1,6 +1,6 @@
 -- How large the figures of a leg get.
 use Rattle.std.proofs.Common.{ℕ, ◌-◌, ◌*◌, ◌/◌, ◌^◌, ◌≤◌, arith}
-use Rattle.engine.specs.Bounds.{product, quotient, share}
+use Rattle.engine.specs.Bounds.{product, quotient}
 
 -- the divisor is a numeral, so that `omega` divides
 pub moving_high : (density v : ℕ) → density ≤ 150000 → v ≤ 7000 → density * (v * v) ≤ 7350000000000

@@ -8,7 +8,6 @@ use Rattle.std.specs.Prelude.{ℕ, ◌+◌, ◌-◌, ◌*◌, ◌/◌, ◌^◌, 
 use Rattle.std.specs.Int.{int_div_euclid}
 use Rattle.aircraft.specs.declared.record.Temperature.{Temperature}
 use Rattle.aircraft.specs.declared.words.Configuration.{Configuration}
-use Rattle.engine.specs.Meaning.{KindMeaning}
 use Rattle.leg.specs.declared.phase.Phase.{Phase}
 use Rattle.leg.specs.declared.phase.Phase.TheVariants.{Climb, Cruise, Descent}
 use Rattle.leg.specs.Configurations.{needs_nominal}

@@ -1,5 +1,5 @@
 -- Whatever line a sheet takes, it stays the sheet of its aircraft and kind.
-use Rattle.std.proofs.Common.{◌≡◌, ℕ, List, Some, None, Ok, Err, Option, Result, refl, ap, ◌∙◌}
+use Rattle.std.proofs.Common.{ℕ, List, Some, None, Ok, Err, Option, Result, refl, ap, ◌∙◌}
 use Rattle.refusal.specs.declared.refusal.Refusal.{Refusal}
 use Rattle.refusal.specs.declared.refusal.Refusal.TheVariants as refusal
 use Rattle.air.specs.declared.days.AnyDay.{AnyDay}

@@ -1,10 +1,9 @@
 -- The form of a script line: its first word and the numbers after it.
-use Rattle.std.specs.Prelude.{ℕ, Bool, cond, ◌&&◌, List, [], ◌∷◌, Some, None, codes, Option}
+use Rattle.std.specs.Prelude.{ℕ, cond, List, Some, None, codes, Option}
 use Rattle.std.specs.Str.{bytes_eq}
 use Rattle.opf.specs.Text.{every, printable}
 use Rattle.sheet.specs.declared.form.Form.{Form}
 use Rattle.sheet.specs.declared.form.Form.TheVariants as form
-use Rattle.sheet.specs.declared.form.Call.{Call}
 use Rattle.sheet.specs.declared.form.Call.TheVariants as call
 use Rattle.sheet.specs.Words.{first_word, behind, has_more, and_then, number_of, deviation_of}
 

@@ -4,7 +4,6 @@ use borrow.Author.Differences.{ints, up, down}
 use Rattle.std.proofs.lemmas.Int.{clamps}
 use Rattle.std.specs.Int.{int_min as minZ, int_max as maxZ}
 use Rattle.exact.specs.Rational.{ℚ, ◌≤ℚ◌, ◌<ℚ◌, ◌≈◌, nat, int, ◌+ℚ◌, ◌-ℚ◌, negℚ, ◌*ℚ◌, minℚ, maxℚ}
-use Rattle.exact.proofs.Linear.{at}
 
 -- Naturals.
 

@@ -1,5 +1,4 @@
 use Rattle.std.proofs.Common.{refl}
-use Rattle.exact.specs.Rational.{◌≈◌}
 use Rattle.engine.specs.Formulas.{exact_thrust_factor, exact_flow_of, exact_idle_flow}
 use Rattle.engine.specs.Jets.{exact_jet_rise, exact_jet_thrust, exact_jet_consumption}
 use Rattle.engine.specs.Turboprops.{exact_propeller_thrust, exact_turboprop_thrust, exact_propeller_consumption, exact_turboprop_consumption}

@@ -1,4 +1,4 @@
-use Rattle.std.proofs.Common.{◌≡◌, ℕ, ◌-◌, ◌^◌, ◌<◌, length, get_or, sym, ap, ◌∙◌, inl, inr, arith}
+use Rattle.std.proofs.Common.{◌-◌, ◌<◌, get_or, sym, ◌∙◌, inl, inr, arith}
 use Rattle.std.proofs.lemmas.List.{at_drop_all}
 use Rattle.opf.specs.Numbers.{digits_of}
 use Rattle.sheet.proofs.Digits.{below_ten_digits, digits_yes, digits_no, more_digits}
