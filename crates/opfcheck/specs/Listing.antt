@@ -1,5 +1,5 @@
 -- What is printed of a file, byte for byte: a line for each coefficient, or the line of its fault.
-use Rattle.std.specs.Prelude.{ℕ, List, [], ◌∷◌, ◌++◌, ℤ, codes, decimal}
+use Rattle.std.specs.Prelude.{ℕ, List, [], ◌∷◌, ◌++◌, codes, decimal}
 use Rattle.std.specs.Fmt.{signed_decimal}
 use Rattle.refusal.specs.declared.fault.Fault.{Fault}
 use Rattle.refusal.specs.Numbers.{fault_number, fault_line, fault_field, fault_layer, layer_word}
