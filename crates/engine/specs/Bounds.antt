@@ -1,4 +1,4 @@
--- How large the whole_number formulas get within the ranges of the coefficients.
+-- How large the whole-number formulas get within the ranges of the coefficients.
 use Rattle.std.specs.Prelude.{ℕ, ◌-◌, ◌*◌, ◌/◌, ◌^◌, ◌≤◌}
 use Rattle.std.proofs.Common.{mul-le-mul, mul-le-mul_left, sub-le, arith}
 use Rattle.std.proofs.Math.Nat.{div-le_of_le-mul}

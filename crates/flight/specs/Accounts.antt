@@ -39,7 +39,7 @@ mass_of l = l.zero_fuel + l.fuel
 abbrev pub reading_of : Account → Reading
 reading_of l = record { mass = mass_of l; fuel = l.fuel; minimum = nat_lt l.fuel l.reserve }
 
--- what is changed in an account: zero_fuel mass and reserve stay
+-- what is changed in an account: zero-fuel mass and reserve stay
 abbrev pub changed : Account → State → (fuel seconds : ℕ) → Account
 changed l state fuel seconds = record { state = state; zero_fuel = l.zero_fuel; fuel = fuel; reserve = l.reserve; seconds = seconds }
 

@@ -1,7 +1,7 @@
 -- What a caller names and what happened: a start, the later calls, and the answers to them.
 --   Setting        the aircraft, the meaning of its engine kind and the air of the day
 --   Start          the figures of a start
---   NamedCall     a later call with what it names
+--   NamedCall      a later call with what it names
 --   Answer         what a call answers where it is accepted
 --   Event          a call that was made, with its answer or refusal
 use Rattle.std.specs.Prelude.{ℕ, ◌+◌, ◌*◌, Some, None, Option, Result}

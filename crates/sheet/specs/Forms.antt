@@ -13,7 +13,7 @@ bench_form s =
     and_then (number_of (first_word s)) (λ density.
     and_then (deviation_of (behind s)) (λ deviation. Some (form.Bench density deviation)))
 
--- what follows the word `start`: zero_fuel mass and fuel, and maybe the reserve
+-- what follows the word `start`: zero-fuel mass and fuel, and maybe the reserve
 abbrev pub reserved_form : ℕ → List ℕ → Option Form
 reserved_form zero_fuel s =
     and_then (number_of (first_word s)) (λ fuel.
