@@ -1,6 +1,6 @@
 -- How near the leg in whole numbers is to the exact leg at the same mass, and how the exact burn goes with the mass.
 --   leg_rate                             the rate of a phase in mg a second
---   BurnNear BurnRises BurnGains      three claims of every accepted leg, over any drag pair
+--   BurnNear BurnRises BurnGains         three claims of every accepted leg, over any drag pair
 use Rattle.std.specs.Prelude.{◌≡◌, ℕ, ◌+◌, ◌*◌, ◌^◌, ◌≤◌, false}
 use Rattle.exact.specs.Rational.{ℚ, nat, ◌-ℚ◌, ◌≤ℚ◌, Near}
 use Rattle.aircraft.specs.declared.record.Aircraft.{Aircraft}

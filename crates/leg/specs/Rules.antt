@@ -1,4 +1,4 @@
--- The rules of a leg in whole numbers. `/` and `divEuclid` round down, toward minus infinity.
+-- The rules of a leg in whole numbers. `/` and `int_div_euclid` round down, toward minus infinity.
 --   dynamic_pressure wing_force weight lifts     what carries the aircraft
 --   drag_of                                      drag for any drag pair
 --   temperature_factor available_thrust          what warm air leaves of thrust
