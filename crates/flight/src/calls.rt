@@ -22,12 +22,7 @@ use refusal::refusal::Refusal;
 
 impl<K: Kind + Copy, D: Day + Copy> Flight<K, D> {
     // A flight on stand.
-    pub fn start(
-        aircraft: Aircraft,
-        kind: K,
-        day: D,
-        start: Start,
-    ) -> Result<Flight<K, D>, Refusal>
+    pub fn start(aircraft: Aircraft, kind: K, day: D, start: Start) -> Result<Flight<K, D>, Refusal>
         ensures { Started aircraft kind day start result }
     {
         let status = begin(&aircraft, start)?;

@@ -132,7 +132,12 @@ fn thirsty() -> Jet {
 }
 
 fn with_kind(kind: Jet, fuel: u64) -> Result<Flight<Jet, Bench>, Refusal> {
-    Flight::start(sample(), kind, Bench::new(45000, 0)?, load(50000000, fuel, None))
+    Flight::start(
+        sample(),
+        kind,
+        Bench::new(45000, 0)?,
+        load(50000000, fuel, None),
+    )
 }
 
 fn on_stand() -> Result<Flight<Jet, Bench>, Refusal> {
