@@ -31,7 +31,7 @@ pub form_keeps : (line : List ℕ) (f : Option Form) (s : Sheet) (a : Answer) (t
 form_keeps line None s a t h = refused_keeps refusal.Script s a t h
 form_keeps line (Some (form.Bench d v)) s a t h = day_keeps line (before_start s.flight (bench_noted (bench_pair d v))) s a t h
 form_keeps line (Some form.Standard) s a t h = day_keeps line (before_start s.flight (Ok standard)) s a t h
-form_keeps line (Some (form.Start z f r)) s a t h = start_keeps s.day (record { zero_fuel = z; fuel = f; reserve = r }) s a t h
+form_keeps line (Some (form.Start x)) s a t h = start_keeps s.day x s a t h
 form_keeps line (Some (form.Call c)) s a t h = h.keeps
 
 pub takes_keeps : (line : List ℕ) (s : Sheet) (a : Answer) (t : Sheet) → Takes line s a t → Keeps s t

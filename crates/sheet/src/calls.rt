@@ -1,25 +1,23 @@
 // What a call of a script does to a flight.
 ghost use Rattle.std.specs.Prelude.{◌≡◌};
 ghost use Rattle.flight.specs.declared.call.Call.TheVariants.{Leg, Uplift, Jettison, Touchdown};
-ghost use Rattle.sheet.specs.Sheets.{named, CallMade};
+ghost use Rattle.sheet.specs.Sheets.{CallMade};
 
 use crate::answer::Answer;
-use crate::form::Call;
 use air::days::AnyDay;
 use engine::any::AnyKind;
+use flight::call::Call;
 use flight::flight::Flight;
+use leg::figures::Figures;
 
 fn leg<'a>(
     flight: &mut Flight<AnyKind, AnyDay>,
     phase: u64,
-    altitude: u64,
-    speed: u64,
-    calibrated: u64,
-    seconds: u64,
+    figures: Figures,
 ) -> Answer<'a>
-    ensures { CallMade (Leg phase (record { altitude = altitude; speed = speed; calibrated = calibrated; seconds = seconds })) flight.old result flight.new }
+    ensures { CallMade (Leg phase figures) flight.old result flight.new }
 {
-    let answer = flight.leg(phase, altitude, speed, calibrated, seconds);
+    let answer = flight.leg(phase, figures);
     let reading = flight.reading();
     match answer {
         Ok(flown) => Answer::Leg(flown, reading),
@@ -61,16 +59,10 @@ fn touchdown<'a>(flight: &mut Flight<AnyKind, AnyDay>) -> Answer<'a>
 }
 
 pub(crate) fn make<'a>(flight: &mut Flight<AnyKind, AnyDay>, call: Call) -> Answer<'a>
-    ensures { CallMade (named call) flight.old result flight.new }
+    ensures { CallMade call flight.old result flight.new }
 {
     match call {
-        Call::Leg {
-            phase,
-            altitude,
-            speed,
-            calibrated,
-            seconds,
-        } => leg(flight, phase, altitude, speed, calibrated, seconds),
+        Call::Leg { phase, figures } => leg(flight, phase, figures),
         Call::Uplift(grams) => uplift(flight, grams),
         Call::Jettison(grams) => jettison(flight, grams),
         Call::Touchdown => touchdown(flight),

@@ -4,9 +4,12 @@ ghost use Rattle.opf.specs.Text.{every, printable};
 ghost use Rattle.sheet.specs.Words.{behind};
 ghost use Rattle.sheet.specs.Forms.{bench_form, reserved_form, unreserved_form, start_form, leg_form, uplift_form, jettison_form, form_by, form_of};
 
-use crate::form::{Call, Form};
+use crate::form::Form;
 use crate::numbers::{deviation, number};
 use crate::scan::{cut_word, is_printable, same};
+use flight::call::Call;
+use flight::start::Start;
+use leg::figures::Figures;
 
 fn bench_form(s: &[u8]) -> Option<Form>
     ensures { result ≡ bench_form s.now }
@@ -23,22 +26,22 @@ fn reserved_form(zero_fuel: u64, s: &[u8]) -> Option<Form>
     let first = cut_word(s);
     let fuel = number(first.word)?;
     let reserve = number(first.rest)?;
-    Some(Form::Start {
+    Some(Form::Start(Start {
         zero_fuel,
         fuel,
         reserve: Some(reserve),
-    })
+    }))
 }
 
 fn unreserved_form(zero_fuel: u64, s: &[u8]) -> Option<Form>
     ensures { result ≡ unreserved_form zero_fuel s.now }
 {
     let fuel = number(s)?;
-    Some(Form::Start {
+    Some(Form::Start(Start {
         zero_fuel,
         fuel,
         reserve: None,
-    })
+    }))
 }
 
 fn start_form(s: &[u8]) -> Option<Form>
@@ -64,13 +67,13 @@ fn leg_form(s: &[u8]) -> Option<Form>
     let fourth = cut_word(third.rest);
     let calibrated = number(fourth.word)?;
     let seconds = number(fourth.rest)?;
-    Some(Form::Call(Call::Leg {
-        phase,
+    let figures = Figures {
         altitude,
         speed,
         calibrated,
         seconds,
-    }))
+    };
+    Some(Form::Call(Call::Leg { phase, figures }))
 }
 
 fn uplift_form(s: &[u8]) -> Option<Form>

@@ -2,11 +2,11 @@
 ghost use Rattle.std.specs.Prelude.{◌≡◌, true, Ok};
 ghost use Rattle.air.specs.Days.{bench_pair};
 ghost use Rattle.opf.specs.Text.{every, printable};
-ghost use Rattle.sheet.specs.Sheets.{Fresh, DayLine, DayTaken, noted, bench_noted, standard, StartMade, StartLine, CallLine, named, Takes};
+ghost use Rattle.sheet.specs.Sheets.{Fresh, DayLine, DayTaken, noted, bench_noted, standard, StartMade, StartLine, CallLine, Takes};
 
 use crate::answer::Answer;
 use crate::calls::make;
-use crate::form::{Call, Form};
+use crate::form::Form;
 use crate::forms::form;
 use crate::sheet::Sheet;
 use air::bench::Bench;
@@ -14,7 +14,9 @@ use air::days::AnyDay;
 use air::standard::Standard;
 use aircraft::record::Aircraft;
 use engine::any::AnyKind;
+use flight::call::Call;
 use flight::flight::Flight;
+use flight::start::Start;
 use refusal::refusal::Refusal;
 use std::str;
 
@@ -67,16 +69,10 @@ impl Sheet {
         self.note(AnyDay::Standard(Standard), line)
     }
 
-    fn start_on<'a>(
-        &mut self,
-        day: AnyDay,
-        zero_fuel: u64,
-        fuel: u64,
-        reserve: Option<u64>,
-    ) -> Answer<'a>
-        ensures { StartMade day (record { zero_fuel = zero_fuel; fuel = fuel; reserve = reserve }) self.old result self.new }
+    fn start_on<'a>(&mut self, day: AnyDay, start: Start) -> Answer<'a>
+        ensures { StartMade day start self.old result self.new }
     {
-        match Flight::start(self.aircraft, self.kind, day, zero_fuel, fuel, reserve) {
+        match Flight::start(self.aircraft, self.kind, day, start) {
             Ok(flight) => {
                 let reading = flight.reading();
                 self.flight = Some(flight);
@@ -86,17 +82,17 @@ impl Sheet {
         }
     }
 
-    fn start<'a>(&mut self, zero_fuel: u64, fuel: u64, reserve: Option<u64>) -> Answer<'a>
-        ensures { StartLine (record { zero_fuel = zero_fuel; fuel = fuel; reserve = reserve }) self.old result self.new }
+    fn start<'a>(&mut self, start: Start) -> Answer<'a>
+        ensures { StartLine start self.old result self.new }
     {
         match self.day {
-            Some(day) => self.start_on(day, zero_fuel, fuel, reserve),
+            Some(day) => self.start_on(day, start),
             None => Answer::No(Refusal::Script),
         }
     }
 
     fn call<'a>(&mut self, call: Call) -> Answer<'a>
-        ensures { CallLine (named call) self.old result self.new }
+        ensures { CallLine call self.old result self.new }
     {
         match self.flight.take() {
             Some(mut flight) => {
@@ -115,13 +111,7 @@ impl Sheet {
         match form(line) {
             Some(Form::Bench { density, deviation }) => self.bench(density, deviation, line),
             Some(Form::Standard) => self.standard(line),
-            Some(
-                Form::Start {
-                    zero_fuel,
-                    fuel,
-                    reserve,
-                },
-            ) => self.start(zero_fuel, fuel, reserve),
+            Some(Form::Start(start)) => self.start(start),
             Some(Form::Call(call)) => self.call(call),
             None => Answer::No(Refusal::Script),
         }
