@@ -1,4 +1,2 @@
-mod Digits
 mod Printable
-mod Words
 pub mod Kept
