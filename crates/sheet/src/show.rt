@@ -73,10 +73,7 @@ impl<'a> fmt::Display for AnswerLine<'a> {
     fn fmt<W: fmt::Write>(&self, f: &mut fmt::Formatter<W>) -> fmt::Result {
         match self.0 {
             Ok(answer) => write!(f, "{answer}"),
-            Err(refusal) => {
-                let number = refusal.number();
-                write!(f, "no {number}\n")
-            }
+            Err(refusal) => write!(f, "no {refusal}\n"),
         }
     }
 }
