@@ -1,2 +1,5 @@
 mod Printable
+mod Named
+mod Called
+mod Marks
 pub mod Kept

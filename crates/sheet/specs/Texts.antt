@@ -16,13 +16,11 @@ mark_text up = cond up (codes "1") (codes "0")
 abbrev pub figures_text : Reading → List ℕ
 figures_text r = decimal r.mass ++ (32 ∷ (decimal r.fuel ++ (32 ∷ mark_text r.minimum)))
 
--- configuration, thrust and drag in mN
-abbrev pub forces_text : Flown → List ℕ
-forces_text x = configuration_word x.configuration ++ (32 ∷ (decimal x.thrust ++ (32 ∷ decimal x.drag)))
-
--- then flow in mg/min, burn in mg and whether the thrust was limited
+-- configuration, thrust and drag in mN, flow in mg/min, burn in mg and whether the thrust was limited
 abbrev pub flown_text : Flown → List ℕ
-flown_text x = forces_text x ++ (32 ∷ (decimal x.flow ++ (32 ∷ (decimal x.burn ++ (32 ∷ mark_text x.limited)))))
+flown_text x =
+    configuration_word x.configuration
+    ++ (32 ∷ (decimal x.thrust ++ (32 ∷ (decimal x.drag ++ (32 ∷ (decimal x.flow ++ (32 ∷ (decimal x.burn ++ (32 ∷ mark_text x.limited)))))))))
 
 abbrev pub answer_text : Answer → List ℕ
 answer_text (answer.Day line) = line.now ++ (10 ∷ [])

@@ -54,8 +54,12 @@ impl<'a> fmt::Display for Answer<'a> {
         match *self {
             Answer::Day(text) => write!(f, "{text}\n"),
             Answer::Start(reading) => write!(f, "start {}\n", Figures(reading)),
-            Answer::Leg(flown, reading) =>
-                write!(f, "leg {} {}\n", LegFigures(flown), Figures(reading)),
+            Answer::Leg(flown, reading) => write!(
+                f,
+                "leg {} {}\n",
+                LegFigures(flown),
+                Figures(reading)
+            ),
             Answer::Uplift(reading) => write!(f, "uplift {}\n", Figures(reading)),
             Answer::Jettison(reading) => write!(f, "jettison {}\n", Figures(reading)),
             Answer::Touchdown(reading) => write!(f, "touchdown {}\n", Figures(reading)),
