@@ -7,11 +7,8 @@ ghost use Rattle.opf.specs.DataLines.{Fields};
 ghost use Rattle.opf.specs.Files.{line_fault, is_end, own_fields, lines_fault, data_lines, draft_of};
 ghost use Rattle.opf.specs.Progress.{HasRead, ReadsLine};
 
-use crate::fields::up_to_slash;
-use crate::line::DataLine;
 use crate::lines::Lines;
 use crate::progress::Progress;
-use crate::take::take_line;
 use crate::token::{Token, check_text, line_token};
 use aircraft::draft::Draft;
 use refusal::fault::Fault;
