@@ -45,20 +45,13 @@ impl<K: Kind + Drop, D: Day + Drop> Flight<K, D> {
         let phase = Phase::numbered(phase)?;
         let state = self.status.state.after(Transition::Leg(phase))?;
         let request = Request::new(&self.aircraft, figures)?;
-        self.fly(phase, state, &request)
-    }
-
-    // A leg that the state takes, with the state that it leaves.
-    fn fly(&mut self, phase: Phase, state: State, request: &Request) -> Result<Flown, Refusal>
-        ensures { Flew K.engine D.air self.old phase state (figures_of request.now) result self.new }
-    {
         if self.status.seconds + request.seconds > 1000000 {
             return Err(Refusal::FlownSeconds);
         }
         let mass = Mass {
             milligrams: self.status.mass(),
         };
-        let flown = fly(&self.aircraft, &self.kind, &self.day, phase, request, mass)?;
+        let flown = fly(&self.aircraft, &self.kind, &self.day, phase, &request, mass)?;
         self.status.burn(state, request.seconds, flown)
     }
 
