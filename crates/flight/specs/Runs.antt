@@ -6,15 +6,11 @@ use Rattle.refusal.specs.declared.refusal.Refusal.{Refusal}
 use Rattle.aircraft.specs.declared.record.Aircraft.{Aircraft}
 use Rattle.air.specs.Day.{Air}
 use Rattle.engine.specs.Meaning.{KindMeaning}
-use Rattle.leg.specs.declared.flown.Flown.{Flown}
-use Rattle.leg.specs.declared.phase.Phase.{Phase}
-use Rattle.leg.specs.declared.figures.Figures.{Figures}
-use Rattle.flight.specs.declared.status.State.{State}
 use Rattle.flight.specs.declared.flight.Flight.{Flight}
 use Rattle.flight.specs.declared.start.Start.{Start}
 use Rattle.flight.specs.declared.call.Call.{Call}
 use Rattle.flight.specs.Calls.{Setting, Answer, Event}
-use Rattle.flight.specs.Accounts.{Account, account_of, start_outcome, Outcome, outcome, answered, left_by, leg_taken}
+use Rattle.flight.specs.Accounts.{Account, account_of, start_outcome, Outcome, outcome, answered, left_by}
 
 module _ {K D : Type 0} where
   abbrev pub account : Flight K D → Account
@@ -45,12 +41,6 @@ module _ {K D : Type 0} (engine : K → KindMeaning) (air : D → Air) where
   pub record Made (f : Flight K D) (c : Call) (r : Result (Answer c) Refusal) (g : Flight K D) : Type 0 where
     pub answer : r ≡ answered (flight_outcome f c)
     pub left : account g ≡ left_by (account f) (flight_outcome f c)
-    pub same : FlightOf f.aircraft f.kind f.day g
-
-  -- what holds where the leg is one that the state takes
-  pub record Flew (f : Flight K D) (p : Phase) (next : State) (x : Figures) (r : Result Flown Refusal) (g : Flight K D) : Type 0 where
-    pub answer : r ≡ answered (leg_taken (setting f.aircraft f.kind f.day) (account f) p next x)
-    pub left : account g ≡ left_by (account f) (leg_taken (setting f.aircraft f.kind f.day) (account f) p next x)
     pub same : FlightOf f.aircraft f.kind f.day g
 
   -- the latest event first

@@ -1,16 +1,15 @@
 // The calls of a flight.
 ghost use Rattle.std.specs.Prelude.{◌≡◌};
-ghost use Rattle.leg.specs.Requests.{figures_of};
 ghost use Rattle.flight.specs.declared.call.Call.TheVariants.{Leg, Uplift, Jettison, Touchdown};
 ghost use Rattle.flight.specs.Accounts.{reading_of};
-ghost use Rattle.flight.specs.Runs.{account, Started, Made, Flew};
+ghost use Rattle.flight.specs.Runs.{account, Started, Made};
 ghost use Rattle.flight.specs.Claims.{KeepsToTheBook};
 
 use crate::flight::Flight;
 use crate::reading::Reading;
 use crate::start::Start;
 use crate::states::Transition;
-use crate::status::{State, Status};
+use crate::status::Status;
 use air::day::Day;
 use aircraft::record::Aircraft;
 use engine::kind::Kind;
@@ -52,7 +51,11 @@ impl<K: Kind + Drop, D: Day + Drop> Flight<K, D> {
             milligrams: self.status.mass(),
         };
         let flown = fly(&self.aircraft, &self.kind, &self.day, phase, &request, mass)?;
-        self.status.burn(state, request.seconds, flown)
+        let fuel = self.status.left(flown.burn)?;
+        self.status.state = state;
+        self.status.fuel = fuel;
+        self.status.seconds += request.seconds;
+        Ok(flown)
     }
 
     // Grams of fuel put in, on stand.

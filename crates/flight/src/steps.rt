@@ -1,14 +1,13 @@
 // What each call makes of a flight's status. A refusal leaves it as it was.
-ghost use Rattle.std.specs.Prelude.{◌≡◌, ◌+◌, ◌≤◌, nat_le, Ok};
+ghost use Rattle.std.specs.Prelude.{◌≡◌, ◌-◌, nat_le, Ok};
 ghost use Rattle.refusal.specs.declared.refusal.Refusal.TheVariants as refusal;
 ghost use Rattle.flight.specs.Calls.{in_mg};
-ghost use Rattle.flight.specs.Accounts.{account_of, mass_of, unless, most_grams, some_grams, start_outcome, answered, left_by, leg_fuelled, uplift_outcome, jettison_outcome, touchdown_outcome, status_begun};
+ghost use Rattle.flight.specs.Accounts.{account_of, mass_of, unless, most_grams, some_grams, start_outcome, answered, left_by, uplift_outcome, jettison_outcome, touchdown_outcome, status_begun};
 
 use crate::start::Start;
 use crate::states::Transition;
 use crate::status::{State, Status};
 use aircraft::record::Aircraft;
-use leg::flown::Flown;
 use refusal::refusal::Refusal;
 
 // Grams that a caller names, in mg.
@@ -67,19 +66,14 @@ impl Status {
         self.zero_fuel + self.fuel
     }
 
-    // A leg that was flown, where there is fuel for it.
-    pub(crate) fn burn(&mut self, state: State, seconds: u64, flown: Flown) -> Result<Flown, Refusal>
-        requires { self.old.seconds + seconds ≤ 1000000 }
-        ensures answer { result ≡ answered (leg_fuelled (account_of self.old) state seconds flown) }
-        ensures left { account_of self.new ≡ left_by (account_of self.old) (leg_fuelled (account_of self.old) state seconds flown) }
+    // The fuel that is left once some is burned or thrown out, in mg; refused where there is less.
+    pub(crate) fn left(&self, milligrams: u64) -> Result<u64, Refusal>
+        ensures { result ≡ unless refusal.FuelShort (nat_le milligrams self.now.fuel) (Ok (self.now.fuel - milligrams)) }
     {
-        if flown.burn > self.fuel {
+        if milligrams > self.fuel {
             return Err(Refusal::FuelShort);
         }
-        self.state = state;
-        self.fuel -= flown.burn;
-        self.seconds += seconds;
-        Ok(flown)
+        Ok(self.fuel - milligrams)
     }
 
     pub(crate) fn uplift(&mut self, aircraft: &Aircraft, grams: u64) -> Result<(), Refusal>
@@ -100,11 +94,9 @@ impl Status {
     {
         let thrown = moved(grams)?;
         let state = self.state.after(Transition::Jettison)?;
-        if thrown > self.fuel {
-            return Err(Refusal::FuelShort);
-        }
+        let fuel = self.left(thrown)?;
         self.state = state;
-        self.fuel -= thrown;
+        self.fuel = fuel;
         Ok(())
     }
 
