@@ -15,15 +15,17 @@ use aircraft::record::Aircraft;
 use engine::kind::Kind;
 use leg::figures::Figures;
 use leg::flown::Flown;
-use leg::leg::fly;
-use leg::mass::Mass;
 use leg::phase::Phase;
 use leg::request::Request;
+use leg::setting::Setting;
 use refusal::refusal::Refusal;
 
-impl<K: Kind + Copy, D: Day + Copy> Flight<K, D> {
+impl<K: Kind + Drop, D: Day + Drop> Flight<K, D> {
     // A flight on stand.
     pub fn start(aircraft: Aircraft, kind: K, day: D, start: Start) -> Result<Flight<K, D>, Refusal>
+    where
+        K: Copy,
+        D: Copy,
         ensures { Started aircraft kind day start result }
     {
         let status = Status::begin(&aircraft, start)?;
@@ -34,24 +36,24 @@ impl<K: Kind + Copy, D: Day + Copy> Flight<K, D> {
             status,
         })
     }
-}
 
-impl<K: Kind + Drop, D: Day + Drop> Flight<K, D> {
     // A leg in the phase that a number names.
     pub fn leg(&mut self, phase: u64, figures: Figures) -> Result<Flown, Refusal>
         ensures { Made K.engine D.air self.old (Leg phase figures) result self.new }
     {
-        let phase = Phase::numbered(phase)?;
+        let phase = Phase::try_from(phase)?;
         let state = self.status.state.after(Transition::Leg(phase))?;
         let request = Request::new(&self.aircraft, figures)?;
         if self.status.seconds + request.seconds > 1000000 {
             return Err(Refusal::FlownSeconds);
         }
-        let mass = Mass {
-            milligrams: self.status.mass(),
+        let setting = Setting {
+            aircraft: &self.aircraft,
+            kind: &self.kind,
+            day: &self.day,
         };
-        let flown = fly(&self.aircraft, &self.kind, &self.day, phase, &request, mass)?;
-        let fuel = self.status.left(flown.burn)?;
+        let flown = setting.fly(phase, &request, self.status.mass())?;
+        let fuel = self.status.fuel_after(flown.burn)?;
         self.status.state = state;
         self.status.fuel = fuel;
         self.status.seconds += request.seconds;
@@ -85,7 +87,7 @@ impl<K: Kind + Drop, D: Day + Drop> Flight<K, D> {
         ensures claims { KeepsToTheBook K.engine D.air self.now result }
     {
         Reading {
-            mass: self.status.mass(),
+            mass: self.status.mass().milligrams,
             fuel: self.status.fuel,
             minimum: self.status.fuel < self.status.reserve,
         }

@@ -8,10 +8,11 @@ use crate::start::Start;
 use crate::states::Transition;
 use crate::status::{State, Status};
 use aircraft::record::Aircraft;
+use leg::mass::Mass;
 use refusal::refusal::Refusal;
 
 // Grams that a caller names, in mg.
-fn weighed(grams: u64) -> Result<u64, Refusal>
+fn milligrams(grams: u64) -> Result<u64, Refusal>
     ensures { result ≡ unless refusal.Grams (nat_le grams most_grams) (Ok (in_mg grams)) }
 {
     if grams > 1000000000 {
@@ -21,17 +22,17 @@ fn weighed(grams: u64) -> Result<u64, Refusal>
 }
 
 // Grams put in or thrown out, in mg: no less than a gram.
-fn moved(grams: u64) -> Result<u64, Refusal>
+fn some_milligrams(grams: u64) -> Result<u64, Refusal>
     ensures { result ≡ unless refusal.Grams (some_grams grams) (Ok (in_mg grams)) }
 {
     if grams < 1 {
         return Err(Refusal::Grams);
     }
-    weighed(grams)
+    milligrams(grams)
 }
 
-// Refused where the aircraft may not have a mass, in mg.
-fn carried(aircraft: &Aircraft, milligrams: u64) -> Result<(), Refusal>
+// Refused where a mass, in mg, is above what the aircraft may have.
+fn within_maximum(aircraft: &Aircraft, milligrams: u64) -> Result<(), Refusal>
     ensures { result ≡ unless refusal.Overweight (nat_le milligrams (in_mg aircraft.now.masses.maximum)) (Ok tt) }
 {
     if milligrams > aircraft.masses.maximum * 1000 {
@@ -44,13 +45,13 @@ impl Status {
     pub(crate) fn begin(aircraft: &Aircraft, start: Start) -> Result<Status, Refusal>
         ensures { status_begun result ≡ start_outcome aircraft.now start }
     {
-        let zero_fuel = weighed(start.zero_fuel)?;
-        let fuel = weighed(start.fuel)?;
-        let reserve = weighed(start.reserve.unwrap_or(0))?;
+        let zero_fuel = milligrams(start.zero_fuel)?;
+        let fuel = milligrams(start.fuel)?;
+        let reserve = milligrams(start.reserve.unwrap_or(0))?;
         if start.zero_fuel < aircraft.masses.minimum {
             return Err(Refusal::ZeroFuel);
         }
-        carried(aircraft, zero_fuel + fuel)?;
+        within_maximum(aircraft, zero_fuel + fuel)?;
         Ok(Status {
             state: State::Stand,
             zero_fuel,
@@ -60,14 +61,16 @@ impl Status {
         })
     }
 
-    pub(crate) fn mass(&self) -> u64
-        ensures { result ≡ mass_of (account_of self.now) }
+    pub(crate) fn mass(&self) -> Mass
+        ensures { result.milligrams ≡ mass_of (account_of self.now) }
     {
-        self.zero_fuel + self.fuel
+        Mass {
+            milligrams: self.zero_fuel + self.fuel,
+        }
     }
 
     // The fuel that is left once some is burned or thrown out, in mg; refused where there is less.
-    pub(crate) fn left(&self, milligrams: u64) -> Result<u64, Refusal>
+    pub(crate) fn fuel_after(&self, milligrams: u64) -> Result<u64, Refusal>
         ensures { result ≡ unless refusal.FuelShort (nat_le milligrams self.now.fuel) (Ok (self.now.fuel - milligrams)) }
     {
         if milligrams > self.fuel {
@@ -80,9 +83,9 @@ impl Status {
         ensures answer { result ≡ answered (uplift_outcome aircraft.now (account_of self.old) grams) }
         ensures left { account_of self.new ≡ left_by (account_of self.old) (uplift_outcome aircraft.now (account_of self.old) grams) }
     {
-        let added = moved(grams)?;
+        let added = some_milligrams(grams)?;
         let state = self.state.after(Transition::Uplift)?;
-        carried(aircraft, self.mass() + added)?;
+        within_maximum(aircraft, self.mass().milligrams + added)?;
         self.state = state;
         self.fuel += added;
         Ok(())
@@ -92,9 +95,9 @@ impl Status {
         ensures answer { result ≡ answered (jettison_outcome (account_of self.old) grams) }
         ensures left { account_of self.new ≡ left_by (account_of self.old) (jettison_outcome (account_of self.old) grams) }
     {
-        let thrown = moved(grams)?;
+        let thrown = some_milligrams(grams)?;
         let state = self.state.after(Transition::Jettison)?;
-        let fuel = self.left(thrown)?;
+        let fuel = self.fuel_after(thrown)?;
         self.state = state;
         self.fuel = fuel;
         Ok(())
