@@ -5,6 +5,7 @@
 --   answered left_by            the answer alone, and what is left; a refusal leaves the account as it was
 --   reading_of                  mass, fuel and minimum-fuel mark
 use Rattle.std.specs.Prelude.{ℕ, ◌+◌, ◌-◌, ◌^◌, Bool, cond, ◌&&◌, Ok, Err, Result, nat_le, nat_lt}
+use Rattle.std.specs.Result.{result_map_both}
 use Rattle.refusal.specs.declared.refusal.Refusal.{Refusal}
 use Rattle.refusal.specs.declared.refusal.Refusal.TheVariants as refusal
 use Rattle.aircraft.specs.declared.record.Aircraft.{Aircraft}
@@ -74,6 +75,10 @@ start_outcome a s =
     (unless refusal.ZeroFuel (nat_le a.masses.minimum s.zero_fuel)
     (unless refusal.Overweight (nat_le (starting_mass s) (in_mg a.masses.maximum)) (Ok (first_account s))))
 
+-- what is kept where a start is accepted
+abbrev pub begun : {A : Type 0} → (A → Account) → Result A Refusal → Result Account Refusal
+begun kept = result_map_both kept (λ e. e)
+
 -- Later calls.
 
 pub record Done (A : Type 0) : Type 0 where
@@ -135,9 +140,3 @@ outcome w l (Leg n x) = leg_outcome w l n x
 outcome w l (Uplift grams) = uplift_outcome w.aircraft l grams
 outcome w l (Jettison grams) = jettison_outcome l grams
 outcome w l Touchdown = touchdown_outcome l
-
--- What a begun status stands for.
-
-abbrev pub status_begun : Result Status Refusal → Result Account Refusal
-status_begun (Ok s) = Ok (account_of s)
-status_begun (Err e) = Err e

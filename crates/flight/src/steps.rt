@@ -2,7 +2,7 @@
 ghost use Rattle.std.specs.Prelude.{◌≡◌, ◌-◌, nat_le, Ok};
 ghost use Rattle.refusal.specs.declared.refusal.Refusal.TheVariants as refusal;
 ghost use Rattle.flight.specs.Calls.{in_mg};
-ghost use Rattle.flight.specs.Accounts.{account_of, mass_of, unless, most_grams, some_grams, start_outcome, answered, left_by, uplift_outcome, jettison_outcome, touchdown_outcome, status_begun};
+ghost use Rattle.flight.specs.Accounts.{account_of, mass_of, unless, most_grams, some_grams, start_outcome, answered, left_by, uplift_outcome, jettison_outcome, touchdown_outcome, begun};
 
 use crate::start::Start;
 use crate::states::Transition;
@@ -43,7 +43,7 @@ fn within_maximum(aircraft: &Aircraft, milligrams: u64) -> Result<(), Refusal>
 
 impl Status {
     pub(crate) fn begin(aircraft: &Aircraft, start: Start) -> Result<Status, Refusal>
-        ensures { status_begun result ≡ start_outcome aircraft.now start }
+        ensures { begun account_of result ≡ start_outcome aircraft.now start }
     {
         let zero_fuel = milligrams(start.zero_fuel)?;
         let fuel = milligrams(start.fuel)?;
