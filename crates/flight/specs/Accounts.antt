@@ -1,5 +1,4 @@
 -- What a flight keeps, what it answers to each call, and what each call leaves.
---   Account                     state, masses in mg, and seconds flown
 --   start_outcome               the account of an accepted start
 --   outcome                     the answer to a later call with the account that it leaves, or the first refusal that holds
 --   answered left_by            the answer alone, and what is left; a refusal leaves the account as it was
@@ -18,23 +17,13 @@ use Rattle.leg.specs.Legs.{leg_answer}
 use Rattle.flight.specs.declared.reading.Reading.{Reading}
 use Rattle.flight.specs.declared.status.State.{State}
 use Rattle.flight.specs.declared.status.State.TheVariants.{Stand}
-use Rattle.flight.specs.declared.status.Status.{Status}
 use Rattle.flight.specs.declared.states.Transition.TheVariants as transition
 use Rattle.flight.specs.declared.start.Start.{Start}
 use Rattle.flight.specs.declared.call.Call.{Call}
 use Rattle.flight.specs.declared.call.Call.TheVariants.{Leg, Uplift, Jettison, Touchdown}
 use Rattle.flight.specs.Calls.{Setting, in_mg, reserve_or_default, starting_mass, starting_reserve, Answer}
+use Rattle.flight.specs.Account.{Account}
 use Rattle.flight.specs.States.{next_state}
-
-pub record Account : Type 0 where
-  pub state : State
-  pub zero_fuel : ℕ
-  pub fuel : ℕ
-  pub reserve : ℕ
-  pub seconds : ℕ
-
-abbrev pub account_of : Status → Account
-account_of s = record { state = s.state; zero_fuel = s.zero_fuel; fuel = s.fuel; reserve = s.reserve; seconds = s.seconds }
 
 abbrev pub mass_of : Account → ℕ
 mass_of l = l.zero_fuel + l.fuel

@@ -10,11 +10,12 @@ use Rattle.flight.specs.declared.flight.Flight.{Flight}
 use Rattle.flight.specs.declared.start.Start.{Start}
 use Rattle.flight.specs.declared.call.Call.{Call}
 use Rattle.flight.specs.Calls.{Setting, Answer, Event}
-use Rattle.flight.specs.Accounts.{Account, account_of, start_outcome, begun, Outcome, outcome, answered, left_by}
+use Rattle.flight.specs.Account.{Account}
+use Rattle.flight.specs.Accounts.{start_outcome, begun, Outcome, outcome, answered, left_by}
 
 module _ {K D : Type 0} where
   abbrev pub account : Flight K D → Account
-  account f = account_of f.status
+  account f = f.status
 
   -- a flight of this aircraft, kind and day
   pub record FlightOf (aircraft : Aircraft) (kind : K) (day : D) (f : Flight K D) : Type 0 where
