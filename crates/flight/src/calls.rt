@@ -18,7 +18,7 @@ use leg::setting::Setting;
 use refusal::refusal::Refusal;
 
 impl<K: Kind + Drop, D: Day + Drop> Flight<K, D> {
-    // A flight on stand.
+    // A flight on stand. Kind and day come by copy, so that a refused start takes nothing from its caller.
     pub fn start(aircraft: Aircraft, kind: K, day: D, start: Start) -> Result<Flight<K, D>, Refusal>
     where
         K: Copy,
