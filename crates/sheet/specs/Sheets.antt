@@ -8,8 +8,10 @@ use Rattle.refusal.specs.declared.refusal.Refusal.TheVariants as refusal
 use Rattle.aircraft.specs.declared.record.Aircraft.{Aircraft}
 use Rattle.air.specs.declared.days.AnyDay.{AnyDay}
 use Rattle.air.specs.declared.days.AnyDay.TheVariants as any
+use Rattle.air.specs.contracts.days.AnyDayDay.TheImpl as days
 use Rattle.air.specs.Days.{any_air, bench_pair}
 use Rattle.engine.specs.declared.any.AnyKind.{AnyKind}
+use Rattle.engine.specs.contracts.any.AnyKindKind.TheImpl as kinds
 use Rattle.engine.specs.Engines.{any_engine, engine_of}
 use Rattle.flight.specs.declared.flight.Flight.{Flight}
 use Rattle.flight.specs.declared.reading.Reading.{Reading}
@@ -29,7 +31,7 @@ use Rattle.sheet.specs.Forms.{form_of}
 use Rattle.sheet.specs.Texts.{line_text}
 
 abbrev pub OwnFlight : Type 0
-OwnFlight = Flight AnyKind AnyDay
+OwnFlight = Flight AnyKind AnyDay kinds.ghosts days.ghosts
 
 pub record Fresh (aircraft : Aircraft) (s : Sheet) : Type 0 where
   pub aircraft_is : s.aircraft ≡ aircraft
