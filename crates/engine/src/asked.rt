@@ -1,24 +1,6 @@
-// What every kind is asked about; a number out of its range is refused.
+// The speeds and thrusts that every kind is asked about; a number out of its range is refused.
 use refusal::refusal::Refusal;
 use std::marker::Model;
-
-// An altitude in ft.
-#[derive(Clone, Copy)]
-pub(crate) struct Altitude {
-    pub(crate) feet: u64,
-}
-
-impl Model for Altitude {
-    ghost use Rattle.std.specs.Prelude.{ℕ, ◌≤◌};
-
-    ghost Value = { ℕ };
-
-    ghost view = { λ a. a.feet };
-
-    ghost inverse = { λ n. record { feet = n } };
-
-    ghost invariant = { λ a. a.feet ≤ 60000 };
-}
 
 // A true airspeed in 0.1 kt.
 #[derive(Clone, Copy)]
@@ -54,24 +36,6 @@ impl Model for Thrust {
     ghost inverse = { λ n. record { millinewtons = n } };
 
     ghost invariant = { λ t. t.millinewtons ≤ 10000000000 };
-}
-
-impl TryFrom<u64> for Altitude {
-    type Error = Refusal;
-
-    ghost use Rattle.std.specs.Prelude.{◌≡◌, if◌then◌else◌, Ok, Err};
-    ghost use Rattle.refusal.specs.declared.refusal.Refusal.TheVariants as refused;
-    ghost use Rattle.engine.specs.Meaning.{asked_altitude};
-
-    ghost try_from_gives = { λ n r. r ≡ (if asked_altitude n then Ok n else Err refused.TooHigh) };
-
-    fn try_from(feet: u64) -> Result<Altitude, Refusal> {
-        if feet <= 60000 {
-            Ok(Altitude { feet })
-        } else {
-            Err(Refusal::TooHigh)
-        }
-    }
 }
 
 impl TryFrom<u64> for Speed {

@@ -3,8 +3,9 @@ ghost use Rattle.std.specs.Prelude.{◌≡◌, ◌+◌, ◌≤◌, if◌then◌e
 ghost use Rattle.refusal.specs.declared.refusal.Refusal.TheVariants.{Flow};
 ghost use Rattle.engine.specs.Formulas.{thrust_factor, flow_of, too_thirsty, idle_flow};
 
-use crate::asked::{Altitude, Thrust};
+use crate::asked::Thrust;
 use aircraft::record::Fuel;
+use refusal::altitude::Altitude;
 use refusal::refusal::Refusal;
 
 // What is left of thrust at an altitude, in 10⁻⁹.

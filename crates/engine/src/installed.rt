@@ -3,10 +3,11 @@ ghost use Rattle.std.specs.Prelude.{◌≡◌};
 ghost use Rattle.engine.specs.Formulas.{KindFormulas, burning};
 ghost use Rattle.engine.specs.Laws.{FormulasClose, burning_laws};
 
-use crate::asked::{Altitude, Speed, Thrust};
+use crate::asked::{Speed, Thrust};
 use crate::formulas::{idle_flow, nominal_flow};
 use crate::kind::Kind;
 use aircraft::record::Fuel;
+use refusal::altitude::Altitude;
 use refusal::refusal::Refusal;
 
 // What sets one such kind apart from another: its thrust and its specific consumption, and the fuel coefficients.

@@ -3,10 +3,11 @@ ghost use Rattle.std.specs.Prelude.{◌≡◌, ◌≤◌};
 ghost use Rattle.engine.specs.Jets.{jet_rise, jet_formulas};
 ghost use Rattle.engine.specs.JetLaws.{jet_close};
 
-use crate::asked::{Altitude, Speed};
+use crate::asked::Speed;
 use crate::formulas::thrust_factor;
 use crate::installed::{Coefficients, Installed};
 use aircraft::record::{Fuel, JetCoefficients};
+use refusal::altitude::Altitude;
 
 pub type Jet = Installed<JetCoefficients>;
 

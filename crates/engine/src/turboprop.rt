@@ -1,12 +1,13 @@
 // A turboprop, by the coefficients of its aircraft.
-ghost use Rattle.std.specs.Prelude.{◌≡◌, ◌+◌, ◌*◌, ◌≤◌, pos, negsuc, ◌+ℤ◌, ◌≤ℤ◌};
-ghost use Rattle.engine.specs.Turboprops.{not_below_zero, propeller_thrust, propeller_consumption, turboprop_formulas};
+ghost use Rattle.std.specs.Prelude.{◌≡◌, ◌+◌, ◌*◌, ◌≤◌};
+ghost use Rattle.engine.specs.Turboprops.{propeller_thrust, propeller_consumption, turboprop_formulas};
 ghost use Rattle.engine.specs.TurbopropLaws.{turboprop_close};
 
-use crate::asked::{Altitude, Speed};
+use crate::asked::Speed;
 use crate::formulas::thrust_factor;
 use crate::installed::{Coefficients, Installed};
 use aircraft::record::{Fuel, TurbopropCoefficients};
+use refusal::altitude::Altitude;
 
 pub type Turboprop = Installed<TurbopropCoefficients>;
 
@@ -16,17 +17,6 @@ fn propeller_thrust(c: &TurbopropCoefficients, speed: Speed) -> u64
     ensures bound { result ≤ 3333300000 }
 {
     10 * c.ctc1 / speed.tenths
-}
-
-// The sum of a thrust and a correction of either sign, or 0 where it is negative.
-fn corrected(thrust: u64, correction: i64) -> u64
-    requires thrust { thrust ≤ 3333300000 }
-    requires least { negsuc 999999999 ≤ℤ correction }
-    requires most { correction ≤ℤ pos 1000000000 }
-    ensures { result ≡ not_below_zero (pos thrust +ℤ correction) }
-{
-    let sum = thrust as i64 + correction;
-    if sum < 0 { 0 } else { sum as u64 }
 }
 
 // Specific consumption per 1,000 kt.
@@ -48,10 +38,8 @@ impl Coefficients for TurbopropCoefficients {
 
     fn thrust(&self, altitude: Altitude, speed: Speed) -> u64 {
         let factor = thrust_factor(self.ctc2, 0, altitude);
-        corrected(
-            propeller_thrust(self, speed) * factor / 1000000000,
-            self.ctc3,
-        )
+        let sum = (propeller_thrust(self, speed) * factor / 1000000000) as i64 + self.ctc3;
+        sum.max(0) as u64
     }
 
     fn consumption(&self, speed: Speed) -> u64 {
