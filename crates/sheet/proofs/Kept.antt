@@ -4,7 +4,7 @@ use Rattle.refusal.specs.declared.refusal.Refusal.{Refusal}
 use Rattle.refusal.specs.declared.refusal.Refusal.TheVariants as refusal
 use Rattle.air.specs.declared.days.AnyDay.{AnyDay}
 use Rattle.air.specs.Days.{bench_pair}
-use Rattle.flight.specs.Calls.{Start}
+use Rattle.flight.specs.declared.start.Start.{Start}
 use Rattle.sheet.specs.declared.form.Form.{Form}
 use Rattle.sheet.specs.declared.form.Form.TheVariants as form
 use Rattle.sheet.specs.declared.answer.Answer.{Answer}

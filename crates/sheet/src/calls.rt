@@ -1,6 +1,6 @@
 // What a call of a script does to a flight.
 ghost use Rattle.std.specs.Prelude.{◌≡◌};
-ghost use Rattle.flight.specs.Calls.{Leg, Uplift, Jettison, Touchdown};
+ghost use Rattle.flight.specs.declared.call.Call.TheVariants.{Leg, Uplift, Jettison, Touchdown};
 ghost use Rattle.sheet.specs.Sheets.{named, CallMade};
 
 use crate::answer::Answer;
