@@ -75,7 +75,7 @@ impl Column {
         let calibrated = row.calibrated as u64;
         let mut flight = Flight::start(
             *aircraft,
-            AnyKind::of(aircraft),
+            AnyKind::from(aircraft),
             Standard,
             zero_fuel,
             fuel,

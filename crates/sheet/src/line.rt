@@ -24,7 +24,7 @@ impl Sheet {
     {
         Sheet {
             aircraft,
-            kind: AnyKind::of(&aircraft),
+            kind: AnyKind::from(&aircraft),
             day: None,
             flight: None,
         }
