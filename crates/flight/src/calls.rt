@@ -45,7 +45,7 @@ impl<K: Kind + Drop, D: Day + Drop> Flight<K, D> {
     ) -> Result<Step, Refusal>
         ensures { step_done result ≡ leg_outcome (setting K.engine D.air self.now.aircraft self.now.kind self.now.day) (account_of status) phase figures }
     {
-        let phase = Phase::numbered(phase)?;
+        let phase = Phase::try_from(phase)?;
         let state = next(status.state, Call::Leg(phase))?;
         let request = Request::new(&self.aircraft, figures)?;
         flown(

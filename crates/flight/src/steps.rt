@@ -12,10 +12,10 @@ use air::day::Day;
 use aircraft::record::Aircraft;
 use engine::kind::Kind;
 use leg::flown::Flown;
-use leg::leg::fly;
 use leg::mass::Mass;
 use leg::phase::Phase;
 use leg::request::Request;
+use leg::setting::Setting;
 use refusal::refusal::Refusal;
 
 impl Status {
@@ -100,7 +100,12 @@ pub(crate) fn flown<K: Kind, D: Day>(
         return Err(Refusal::FlownSeconds);
     }
     let milligrams = status.zero_fuel + status.fuel;
-    let flown = fly(aircraft, kind, day, phase, request, Mass { milligrams })?;
+    let setting = Setting {
+        aircraft,
+        kind,
+        day,
+    };
+    let flown = setting.fly(phase, request, Mass { milligrams })?;
     fuelled(status, state, request.seconds, flown)
 }
 

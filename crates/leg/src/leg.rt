@@ -1,25 +1,22 @@
-// Flying a leg.
+// What air and engine give a leg, and what a leg answers.
 ghost use Rattle.std.specs.Prelude.{◌≡◌, ◌≤◌, pos, negsuc, ◌≤ℤ◌, IfOk, Ok};
 ghost use Rattle.leg.specs.Requests.{figures_of};
 ghost use Rattle.leg.specs.Rules.{temperature_factor, available_thrust};
-ghost use Rattle.leg.specs.Legs.{powered_answer, leg_answer};
+ghost use Rattle.leg.specs.Legs.{powered_answer};
 
-use crate::configurations::{coefficients, configuration, share};
-use crate::drag::{drag, force};
+use crate::configurations::share;
 use crate::flow::{burn, flow};
 use crate::flown::Flown;
-use crate::mass::Mass;
 use crate::phase::Phase;
 use crate::request::Request;
 use crate::thrust::{left, loss, short, used};
-use air::day::Day;
 use aircraft::record::{Aircraft, Temperature};
 use aircraft::words::Configuration;
 use engine::kind::Kind;
 use refusal::refusal::Refusal;
 
 // The thrust that the air of the day leaves, in mN.
-fn available<K: Kind>(
+pub(crate) fn available<K: Kind>(
     temperature: &Temperature,
     kind: &K,
     request: &Request,
@@ -35,7 +32,7 @@ fn available<K: Kind>(
 }
 
 // What a leg that its wing lifts answers, with this drag and available thrust.
-fn powered<K: Kind>(
+pub(crate) fn powered<K: Kind>(
     aircraft: &Aircraft,
     kind: &K,
     phase: Phase,
@@ -59,23 +56,4 @@ fn powered<K: Kind>(
         burn,
         limited: short(phase, drag, available),
     })
-}
-
-// Refused where the wing does not lift the mass, and then where the leg needs nominal flow and the kind refuses it.
-pub fn fly<K: Kind, D: Day>(
-    aircraft: &Aircraft,
-    kind: &K,
-    day: &D,
-    phase: Phase,
-    request: &Request,
-    mass: Mass,
-) -> Result<Flown, Refusal>
-    ensures { result ≡ leg_answer aircraft.now (K.Kind.engine kind.now) (D.Day.air day.now) phase (figures_of request.now) mass.milligrams }
-{
-    let (density, deviation) = day.at(request.altitude)?;
-    let c = configuration(aircraft, phase, request);
-    let force = force(density, request.speed, aircraft.wing);
-    let drag = drag(coefficients(aircraft, c), mass, force)?;
-    let available = available(&aircraft.temperature, kind, request, deviation)?;
-    powered(aircraft, kind, phase, c, request, drag, available)
 }

@@ -11,11 +11,13 @@ pub enum Phase {
     Descent,
 }
 
-impl Phase {
-    // The phase that a number names.
-    pub fn numbered(number: u64) -> Result<Phase, Refusal>
-        ensures { result ≡ phase_numbered number }
-    {
+// The phase that a number names.
+impl TryFrom<u64> for Phase {
+    type Error = Refusal;
+
+    ghost try_from_gives = { λ number result. result ≡ phase_numbered number };
+
+    fn try_from(number: u64) -> Result<Phase, Refusal> {
         match number {
             1 => Ok(Phase::Climb),
             2 => Ok(Phase::Cruise),

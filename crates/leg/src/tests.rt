@@ -1,10 +1,10 @@
 // Phases, requests and legs at worked figures, at the ends of their ranges and at each refusal; the figures were worked out apart from this code.
 use crate::figures::Figures;
 use crate::flown::Flown;
-use crate::leg::fly;
 use crate::mass::Mass;
 use crate::phase::Phase;
 use crate::request::Request;
+use crate::setting::Setting;
 use air::bench::Bench;
 use aircraft::record::{
     Aircraft, Descent, Engine, Fuel, JetCoefficients, Masses, Row, Rows, Temperature,
@@ -152,34 +152,31 @@ fn sample_leg(
 ) -> Result<Flown, Refusal> {
     let day = Bench::new(density, deviation)?;
     let request = Request::new(&sample(), asked(altitude, 4500, 280, 60))?;
-    fly(
-        &sample(),
-        &Jet {
+    let setting = Setting {
+        aircraft: &sample(),
+        kind: &Jet {
             coefficients: sample_jet(),
         },
-        &day,
-        phase,
-        &request,
-        mass,
-    )
+        day: &day,
+    };
+    setting.fly(phase, &request, mass)
 }
 
 // The configuration of the sample jet at 60 t and 250 kt.
 fn flaps(phase: Phase, altitude: u64, calibrated: u64) -> Result<Configuration, Refusal> {
     let day = Bench::new(100000, 0)?;
     let request = Request::new(&sample(), asked(altitude, 2500, calibrated, 60))?;
-    let flown = fly(
-        &sample(),
-        &Jet {
+    let setting = Setting {
+        aircraft: &sample(),
+        kind: &Jet {
             coefficients: sample_jet(),
         },
-        &day,
-        phase,
-        &request,
-        Mass {
-            milligrams: 60000000000,
-        },
-    )?;
+        day: &day,
+    };
+    let mass = Mass {
+        milligrams: 60000000000,
+    };
+    let flown = setting.fly(phase, &request, mass)?;
     Ok(flown.configuration)
 }
 
@@ -192,18 +189,17 @@ fn largest_leg(
 ) -> Result<Flown, Refusal> {
     let day = Bench::new(150000, deviation)?;
     let request = Request::new(&largest(), asked(altitude, 7000, calibrated, 60))?;
-    fly(
-        &largest(),
-        &Jet {
+    let setting = Setting {
+        aircraft: &largest(),
+        kind: &Jet {
             coefficients: largest_jet(),
         },
-        &day,
-        phase,
-        &request,
-        Mass {
-            milligrams: 900000000000,
-        },
-    )
+        day: &day,
+    };
+    let mass = Mass {
+        milligrams: 900000000000,
+    };
+    setting.fly(phase, &request, mass)
 }
 
 // The number by which a leg of the sample aircraft is refused, or 0.
@@ -219,7 +215,12 @@ fn refusal_of(
     if milligrams < 200000000 || milligrams > 900000000000 {
         return Err(Refusal::Script);
     }
-    match fly(&sample(), kind, &day, phase, &request, Mass { milligrams }) {
+    let setting = Setting {
+        aircraft: &sample(),
+        kind,
+        day: &day,
+    };
+    match setting.fly(phase, &request, Mass { milligrams }) {
         Ok(_) => Ok(0),
         Err(refusal) => Ok(u8::from(refusal)),
     }
@@ -235,11 +236,11 @@ fn figures(altitude: u64, speed: u64, calibrated: u64, seconds: u64) -> u8 {
 
 #[test]
 fn phases(rt: HostRuntime) {
-    assert_eq!(rt; Phase::numbered(0), Err(Refusal::Phase));
-    assert_eq!(rt; Phase::numbered(1), Ok(Phase::Climb));
-    assert_eq!(rt; Phase::numbered(2), Ok(Phase::Cruise));
-    assert_eq!(rt; Phase::numbered(3), Ok(Phase::Descent));
-    assert_eq!(rt; Phase::numbered(4), Err(Refusal::Phase));
+    assert_eq!(rt; Phase::try_from(0), Err(Refusal::Phase));
+    assert_eq!(rt; Phase::try_from(1), Ok(Phase::Climb));
+    assert_eq!(rt; Phase::try_from(2), Ok(Phase::Cruise));
+    assert_eq!(rt; Phase::try_from(3), Ok(Phase::Descent));
+    assert_eq!(rt; Phase::try_from(4), Err(Refusal::Phase));
 }
 
 #[test]
