@@ -18,8 +18,7 @@ use Rattle.flight.specs.declared.reading.Reading.{Reading}
 use Rattle.flight.specs.declared.status.State.{State}
 use Rattle.flight.specs.declared.status.State.TheVariants.{Stand}
 use Rattle.flight.specs.declared.status.Status.{Status}
-use Rattle.flight.specs.declared.status.Step.{Step}
-use Rattle.flight.specs.declared.states.Call.TheVariants as call
+use Rattle.flight.specs.declared.states.Transition.TheVariants as transition
 use Rattle.flight.specs.declared.start.Start.{Start}
 use Rattle.flight.specs.declared.call.Call.{Call}
 use Rattle.flight.specs.declared.call.Call.TheVariants.{Leg, Uplift, Jettison, Touchdown}
@@ -109,7 +108,7 @@ leg_taken w l p next x =
 abbrev pub leg_outcome : Setting → Account → (phase : ℕ) → Figures → Outcome Flown
 leg_outcome w l n x =
     and_then (phase_numbered n) (λ p.
-    and_then (next_state l.state (call.Leg p)) (λ next.
+    and_then (next_state l.state (transition.Leg p)) (λ next.
     and_then (taken_figures w.aircraft x) (leg_taken w l p next)))
 
 -- no less than a gram
@@ -119,17 +118,17 @@ some_grams = from_to 1 most_grams
 abbrev pub uplift_outcome : Aircraft → Account → (grams : ℕ) → Outcome (Unit {0})
 uplift_outcome a l grams =
     unless refusal.Grams (some_grams grams)
-    (and_then (next_state l.state call.Uplift) (λ next.
+    (and_then (next_state l.state transition.Uplift) (λ next.
     unless refusal.Overweight (nat_le (mass_of l + in_mg grams) (in_mg a.masses.maximum)) (silent (changed l next (l.fuel + in_mg grams) l.seconds))))
 
 abbrev pub jettison_outcome : Account → (grams : ℕ) → Outcome (Unit {0})
 jettison_outcome l grams =
     unless refusal.Grams (some_grams grams)
-    (and_then (next_state l.state call.Jettison) (λ next.
+    (and_then (next_state l.state transition.Jettison) (λ next.
     unless refusal.FuelShort (nat_le (in_mg grams) l.fuel) (silent (changed l next (l.fuel - in_mg grams) l.seconds))))
 
 abbrev pub touchdown_outcome : Account → Outcome (Unit {0})
-touchdown_outcome l = and_then (next_state l.state call.Touchdown) (λ next. silent (changed l next l.fuel l.seconds))
+touchdown_outcome l = and_then (next_state l.state transition.Touchdown) (λ next. silent (changed l next l.fuel l.seconds))
 
 abbrev pub outcome : Setting → Account → (c : Call) → Outcome (Answer c)
 outcome w l (Leg n x) = leg_outcome w l n x
@@ -137,16 +136,8 @@ outcome w l (Uplift grams) = uplift_outcome w.aircraft l grams
 outcome w l (Jettison grams) = jettison_outcome l grams
 outcome w l Touchdown = touchdown_outcome l
 
--- What a status, or a leg's answer and the status that it leaves, stands for.
+-- What a begun status stands for.
 
 abbrev pub status_begun : Result Status Refusal → Result Account Refusal
 status_begun (Ok s) = Ok (account_of s)
 status_begun (Err e) = Err e
-
-abbrev pub status_done : Result Status Refusal → Outcome (Unit {0})
-status_done (Ok s) = silent (account_of s)
-status_done (Err e) = Err e
-
-abbrev pub step_done : Result Step Refusal → Outcome Flown
-step_done (Ok s) = Ok (record { answer = s.flown; left = account_of s.left })
-step_done (Err e) = Err e

@@ -1,16 +1,14 @@
 // What a flight keeps: its state, masses and seconds flown.
 ghost use Rattle.std.specs.Prelude.{◌+◌, ◌≤◌};
 
-use leg::flown::Flown;
-
-#[derive(Clone, Copy)]
+#[derive(Clone, Copy, PartialEq, Eq, Debug)]
 pub(crate) enum State {
     Stand,
     Airborne,
 }
 
 // Masses in mg. The zero-fuel mass is at least 0.2 t and the mass at most 900 t, as every aircraft's are.
-#[derive(Clone, Copy)]
+#[derive(Clone, Copy, Debug)]
 pub(crate) struct Status {
     pub(crate) state: State,
     pub(crate) zero_fuel: u64,
@@ -20,11 +18,4 @@ pub(crate) struct Status {
     ghost light: { 200000000 ≤ zero_fuel },
     ghost heavy: { zero_fuel + fuel ≤ 900000000000 },
     ghost flown: { seconds ≤ 1000000 },
-}
-
-// What a leg answers, and the status that it leaves.
-#[derive(Clone, Copy)]
-pub(crate) struct Step {
-    pub(crate) flown: Flown,
-    pub(crate) left: Status,
 }
