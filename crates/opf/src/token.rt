@@ -3,7 +3,7 @@ ghost use Rattle.std.specs.Prelude.{◌≡◌};
 ghost use Rattle.opf.specs.Text.{text_fault, line_of};
 ghost use Rattle.opf.specs.Faults.{Judges};
 ghost use Rattle.opf.specs.Lines.{done};
-ghost use Rattle.opf.specs.LineEnds.{line_seen};
+ghost use Rattle.opf.specs.Tokens.{line_seen};
 
 use refusal::fault::Fault;
 use text::bytes::is_printable;
