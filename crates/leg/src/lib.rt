@@ -1,5 +1,7 @@
 #![tactic(auto)]
 
+mod coefficients;
+mod conditions;
 mod configurations;
 mod drag;
 pub mod figures;
