@@ -1,8 +1,9 @@
 // The air that a leg is flown in.
 ghost use Rattle.std.specs.Prelude.{◌≡◌, ℕ, ◌≤◌, ℤ, pos, negsuc, ◌≤ℤ◌, Ok};
-ghost use Rattle.leg.specs.Rules.{dynamic_pressure, wing_force, warming, temperature_factor};
+ghost use Rattle.leg.specs.Rules.{dynamic_pressure, wing_force, warming, temperature_factor, available_thrust};
 
 use crate::request::Request;
+use crate::thrust::Thrust;
 use air::day::Day;
 use aircraft::record::{Aircraft, Temperature};
 use refusal::refusal::Refusal;
@@ -50,13 +51,15 @@ impl Conditions {
         t.ctc5 as i64 * (100 * self.deviation - t.ctc4)
     }
 
-    // What warm air takes of thrust, in 10⁻⁹.
-    pub(crate) fn loss(&self, t: &Temperature) -> u64
-        ensures value { result ≡ temperature_factor t.now self.now.1 }
-        ensures bound { result ≤ 400000000 }
+    // What the air leaves of a thrust; warm air takes up to two fifths, counted in 10⁻⁹.
+    pub(crate) fn left(&self, t: &Temperature, standard: Thrust) -> Thrust
+        ensures { result ≡ available_thrust standard (temperature_factor t.now self.now.1) }
     {
-        u64::try_from(self.warmth(t).div_euclid(1000))
+        let loss = u64::try_from(self.warmth(t).div_euclid(1000))
             .unwrap_or(0)
-            .min(400000000)
+            .min(400000000);
+        Thrust {
+            millinewtons: standard.millinewtons * (1000000000 - loss) / 1000000000,
+        }
     }
 }

@@ -1,9 +1,9 @@
 // What a leg chooses by its phase, altitude and calibrated airspeed: the configuration, its drag pair and its descent factor.
 ghost use Rattle.std.specs.Prelude.{◌≡◌, ◌≤◌};
 ghost use Rattle.leg.specs.Requests.{figures_of};
-ghost use Rattle.leg.specs.Configurations.{slow, climb_configuration, descent_configuration, configuration_of, gear_drag, drag_pair, clean_factor, descent_factor};
+ghost use Rattle.leg.specs.Configurations.{slow, climb_configuration, descent_configuration, configuration_of, gear_drag, drag_pair, descent_factor};
 
-use crate::coefficients::Coefficients;
+use crate::drag::Coefficients;
 use crate::phase::Phase;
 use crate::request::Request;
 use aircraft::record::{Aircraft, Descent, Row, Rows};

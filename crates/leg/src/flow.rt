@@ -36,7 +36,9 @@ impl<'a, K: Kind> Leg<'a, K> {
         match (self.phase, self.configuration) {
             (Phase::Climb, _) => self.nominal(thrust),
             (Phase::Cruise, _) => Ok(self.nominal(thrust)? * self.aircraft.cruise / 100000),
-            (Phase::Descent, Configuration::Approach | Configuration::Landing) => Ok(self.nominal(thrust)?.max(self.idle()?)),
+            (Phase::Descent, Configuration::Approach | Configuration::Landing) => Ok(
+                self.nominal(thrust)?.max(self.idle()?),
+            ),
             (Phase::Descent, _) => self.idle(),
         }
     }

@@ -31,15 +31,18 @@ impl<'a, K: Kind> Leg<'a, K> {
         ensures { result ≡ Ok (available_thrust ((K.Kind.engine self.now.kind.now).thrust self.now.request.now.altitude self.now.request.now.speed) (temperature_factor self.now.aircraft.now.temperature conditions.now.1)) }
     {
         let millinewtons = self.kind.thrust(self.request.altitude, self.request.speed)?;
-        let standard = Thrust { millinewtons };
-        Ok(standard.left(conditions.loss(&self.aircraft.temperature)))
+        Ok(conditions.left(&self.aircraft.temperature, Thrust { millinewtons }))
     }
 
     // What the leg answers where its wing lifts it, with this drag and available thrust.
     pub(crate) fn powered(&self, drag: u64, available: Thrust) -> Result<Flown, Refusal>
         ensures { result ≡ powered_answer self.now.aircraft.now (K.Kind.engine self.now.kind.now) self.now.phase self.now.configuration (figures_of self.now.request.now) drag available }
     {
-        let share = share(&self.aircraft.descent, self.configuration, self.request.altitude);
+        let share = share(
+            &self.aircraft.descent,
+            self.configuration,
+            self.request.altitude,
+        );
         let thrust = available.used(self.phase, drag, share);
         let flow = self.flow(thrust)?;
         Ok(Flown {

@@ -1,6 +1,5 @@
 #![tactic(auto)]
 
-mod coefficients;
 mod conditions;
 mod configurations;
 mod drag;

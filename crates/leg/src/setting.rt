@@ -5,7 +5,6 @@ ghost use Rattle.leg.specs.Legs.{leg_answer};
 
 use crate::conditions::Conditions;
 use crate::configurations::{coefficients, configuration};
-use crate::drag::drag;
 use crate::flown::Flown;
 use crate::leg::Leg;
 use crate::mass::Mass;
@@ -37,8 +36,8 @@ impl<'a, K: Kind, D: Day> Setting<'a, K, D> {
             configuration: configuration(self.aircraft, phase, request),
             request,
         };
-        let pair = coefficients(leg.aircraft, leg.configuration);
-        let drag = drag(pair, mass, conditions.force(request, leg.aircraft))?;
+        let force = conditions.force(request, leg.aircraft);
+        let drag = coefficients(leg.aircraft, leg.configuration).drag(mass, force)?;
         leg.powered(drag, leg.available(&conditions)?)
     }
 }

@@ -1,6 +1,6 @@
-// What warm air leaves of thrust, and the thrust that a phase uses.
+// Thrust, and what a phase uses of it.
 ghost use Rattle.std.specs.Prelude.{◌≡◌, ℕ, ◌≤◌};
-ghost use Rattle.leg.specs.Rules.{available_thrust, cruise_cap, thrust_used, limited};
+ghost use Rattle.leg.specs.Rules.{cruise_cap, thrust_used, limited};
 
 use crate::phase::Phase;
 use std::marker::Model;
@@ -22,16 +22,6 @@ impl Model for Thrust {
 }
 
 impl Thrust {
-    // What a loss in 10⁻⁹ leaves of it.
-    pub(crate) fn left(self, loss: u64) -> Thrust
-        requires { loss ≤ 400000000 }
-        ensures { result ≡ available_thrust self loss }
-    {
-        Thrust {
-            millinewtons: self.millinewtons * (1000000000 - loss) / 1000000000,
-        }
-    }
-
     // The most of it that cruise uses, in mN.
     fn cap(self) -> u64
         ensures { result ≡ cruise_cap self }
