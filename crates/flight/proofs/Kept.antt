@@ -23,7 +23,8 @@ use Rattle.flight.specs.declared.call.Call.TheVariants.{Leg, Uplift, Jettison, T
 use Rattle.flight.specs.Calls.{Setting, in_mg, starting_mass, starting_reserve, Answer, Event}
 use Rattle.flight.specs.Book.{told, by_phase, book_burn, book_mass, allowance, allowed}
 use Rattle.flight.specs.States.{next_state}
-use Rattle.flight.specs.Accounts.{Account, mass_of, changed, unless, and_then, start_outcome, start_grams, first_account, Done, Outcome, answered, left_by, silent, some_grams, outcome}
+use Rattle.flight.specs.Account.{Account}
+use Rattle.flight.specs.Accounts.{mass_of, changed, unless, and_then, start_outcome, start_grams, first_account, Done, Outcome, answered, left_by, silent, some_grams, outcome}
 use Rattle.flight.specs.Claims.{put_in, thrown_out, burned_by, summed}
 use Rattle.flight.proofs.Outcomes.{then_ok, unless_ok, LegAccepted, leg_ok}
 use Rattle.flight.proofs.Step as step

@@ -15,7 +15,8 @@ use Rattle.flight.specs.declared.states.Transition.TheVariants as transition
 use Rattle.flight.specs.declared.call.Call.TheVariants.{Leg}
 use Rattle.flight.specs.Calls.{Setting}
 use Rattle.flight.specs.States.{next_state}
-use Rattle.flight.specs.Accounts.{Account, mass_of, changed, unless, and_then, most_seconds, Done, Outcome, leg_fuelled, leg_taken, outcome}
+use Rattle.flight.specs.Account.{Account}
+use Rattle.flight.specs.Accounts.{mass_of, changed, unless, and_then, most_seconds, Done, Outcome, leg_fuelled, leg_taken, outcome}
 
 pub then_ok : {A B : Type 0} (r : Result A Refusal) (f : A → Result B Refusal) (b : B) → and_then r f ≡ Ok b → (a : A) × (r ≡ Ok a) × (f a ≡ Ok b)
 then_ok (Ok a) f b q = (a, refl, q)

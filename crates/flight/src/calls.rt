@@ -86,10 +86,6 @@ impl<K: Kind + Drop, D: Day + Drop> Flight<K, D> {
         ensures answer { result ≡ reading_of (account self.now) }
         ensures claims { KeepsToTheBook K.engine D.air self.now result }
     {
-        Reading {
-            mass: self.status.mass().milligrams,
-            fuel: self.status.fuel,
-            minimum: self.status.fuel < self.status.reserve,
-        }
+        self.status.reading()
     }
 }

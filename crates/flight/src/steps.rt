@@ -2,8 +2,9 @@
 ghost use Rattle.std.specs.Prelude.{◌≡◌, ◌-◌, nat_le, Ok};
 ghost use Rattle.refusal.specs.declared.refusal.Refusal.TheVariants as refusal;
 ghost use Rattle.flight.specs.Calls.{in_mg};
-ghost use Rattle.flight.specs.Accounts.{account_of, mass_of, unless, most_grams, some_grams, start_outcome, answered, left_by, uplift_outcome, jettison_outcome, touchdown_outcome, status_begun};
+ghost use Rattle.flight.specs.Accounts.{mass_of, reading_of, unless, most_grams, some_grams, start_outcome, answered, left_by, uplift_outcome, jettison_outcome, touchdown_outcome};
 
+use crate::reading::Reading;
 use crate::start::Start;
 use crate::states::Transition;
 use crate::status::{State, Status};
@@ -43,7 +44,7 @@ fn within_maximum(aircraft: &Aircraft, milligrams: u64) -> Result<(), Refusal>
 
 impl Status {
     pub(crate) fn begin(aircraft: &Aircraft, start: Start) -> Result<Status, Refusal>
-        ensures { status_begun result ≡ start_outcome aircraft.now start }
+        ensures { result ≡ start_outcome aircraft.now start }
     {
         let zero_fuel = milligrams(start.zero_fuel)?;
         let fuel = milligrams(start.fuel)?;
@@ -62,10 +63,21 @@ impl Status {
     }
 
     pub(crate) fn mass(&self) -> Mass
-        ensures { result.milligrams ≡ mass_of (account_of self.now) }
+        ensures { result.milligrams ≡ mass_of self.now }
     {
         Mass {
             milligrams: self.zero_fuel + self.fuel,
+        }
+    }
+
+    // The mark is up exactly if the fuel is below the reserve.
+    pub(crate) fn reading(&self) -> Reading
+        ensures { result ≡ reading_of self.now }
+    {
+        Reading {
+            mass: self.mass().milligrams,
+            fuel: self.fuel,
+            minimum: self.fuel < self.reserve,
         }
     }
 
@@ -80,8 +92,8 @@ impl Status {
     }
 
     pub(crate) fn uplift(&mut self, aircraft: &Aircraft, grams: u64) -> Result<(), Refusal>
-        ensures answer { result ≡ answered (uplift_outcome aircraft.now (account_of self.old) grams) }
-        ensures left { account_of self.new ≡ left_by (account_of self.old) (uplift_outcome aircraft.now (account_of self.old) grams) }
+        ensures answer { result ≡ answered (uplift_outcome aircraft.now self.old grams) }
+        ensures left { self.new ≡ left_by self.old (uplift_outcome aircraft.now self.old grams) }
     {
         let added = some_milligrams(grams)?;
         let state = self.state.after(Transition::Uplift)?;
@@ -92,8 +104,8 @@ impl Status {
     }
 
     pub(crate) fn jettison(&mut self, grams: u64) -> Result<(), Refusal>
-        ensures answer { result ≡ answered (jettison_outcome (account_of self.old) grams) }
-        ensures left { account_of self.new ≡ left_by (account_of self.old) (jettison_outcome (account_of self.old) grams) }
+        ensures answer { result ≡ answered (jettison_outcome self.old grams) }
+        ensures left { self.new ≡ left_by self.old (jettison_outcome self.old grams) }
     {
         let thrown = some_milligrams(grams)?;
         let state = self.state.after(Transition::Jettison)?;
@@ -104,8 +116,8 @@ impl Status {
     }
 
     pub(crate) fn touchdown(&mut self) -> Result<(), Refusal>
-        ensures answer { result ≡ answered (touchdown_outcome (account_of self.old)) }
-        ensures left { account_of self.new ≡ left_by (account_of self.old) (touchdown_outcome (account_of self.old)) }
+        ensures answer { result ≡ answered (touchdown_outcome self.old) }
+        ensures left { self.new ≡ left_by self.old (touchdown_outcome self.old) }
     {
         self.state = self.state.after(Transition::Touchdown)?;
         Ok(())

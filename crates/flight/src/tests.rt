@@ -155,15 +155,12 @@ fn in_the_air() -> Result<Flight<Jet, Bench>, Refusal> {
     Ok(flight)
 }
 
-// The number of a refusal, or 0.
-fn number<T: Drop>(answer: Result<T, Refusal>) -> u8 {
-    match answer {
-        Ok(_) => 0,
-        Err(refusal) => u8::from(refusal),
-    }
+// The number of a refusal.
+fn number<T: Drop>(answer: Result<T, Refusal>) -> Option<u8> {
+    answer.err().map(u8::from)
 }
 
-fn starting(zero_fuel: u64, fuel: u64, reserve: Option<u64>) -> Result<u8, Refusal> {
+fn starting(zero_fuel: u64, fuel: u64, reserve: Option<u64>) -> Result<Option<u8>, Refusal> {
     Ok(number(Flight::start(
         sample(),
         sipping(),
@@ -234,7 +231,10 @@ fn sample_legs(rt: HostRuntime) -> Result<(), Fail> {
             minimum: false,
         }
     );
-    assert_eq!(rt; number(flight.leg(2, figures(30000, 4500, 280, 61))), 20);
+    assert_eq!(rt;
+        number(flight.leg(2, figures(30000, 4500, 280, 61))),
+        Some(20)
+    );
     flight.jettison(100000)?;
     assert_eq!(rt;
         flight.reading(),
@@ -259,9 +259,9 @@ fn sample_hop(rt: HostRuntime) -> Result<(), Fail> {
         10000000,
         figures(30000, 4500, 280, 60),
     )?;
-    assert_eq!(rt; number(hop.uplifted), 0);
-    assert_eq!(rt; number(hop.flown), 0);
-    assert_eq!(rt; number(hop.landed), 0);
+    assert_eq!(rt; number(hop.uplifted), None);
+    assert_eq!(rt; number(hop.flown), None);
+    assert_eq!(rt; number(hop.landed), None);
     assert_eq!(rt;
         hop.reading,
         Reading {
@@ -276,10 +276,16 @@ fn sample_hop(rt: HostRuntime) -> Result<(), Fail> {
 #[test]
 fn calls_on_stand(rt: HostRuntime) -> Result<(), Fail> {
     let mut flight = on_stand()?;
-    assert_eq!(rt; number(flight.leg(2, figures(30000, 4500, 280, 60))), 16);
-    assert_eq!(rt; number(flight.leg(3, figures(30000, 4500, 280, 60))), 16);
-    assert_eq!(rt; number(flight.jettison(1)), 16);
-    assert_eq!(rt; number(flight.touchdown()), 16);
+    assert_eq!(rt;
+        number(flight.leg(2, figures(30000, 4500, 280, 60))),
+        Some(16)
+    );
+    assert_eq!(rt;
+        number(flight.leg(3, figures(30000, 4500, 280, 60))),
+        Some(16)
+    );
+    assert_eq!(rt; number(flight.jettison(1)), Some(16));
+    assert_eq!(rt; number(flight.touchdown()), Some(16));
     assert_eq!(rt;
         flight.reading(),
         Reading {
@@ -288,7 +294,7 @@ fn calls_on_stand(rt: HostRuntime) -> Result<(), Fail> {
             minimum: false,
         }
     );
-    assert_eq!(rt; number(flight.uplift(1)), 0);
+    assert_eq!(rt; number(flight.uplift(1)), None);
     assert_eq!(rt;
         flight.reading(),
         Reading {
@@ -297,15 +303,15 @@ fn calls_on_stand(rt: HostRuntime) -> Result<(), Fail> {
             minimum: false,
         }
     );
-    assert_eq!(rt; number(flight.leg(1, figures(30000, 4500, 280, 60))), 0);
-    assert_eq!(rt; number(flight.leg(2, figures(30000, 4500, 280, 60))), 0);
+    assert_eq!(rt; number(flight.leg(1, figures(30000, 4500, 280, 60))), None);
+    assert_eq!(rt; number(flight.leg(2, figures(30000, 4500, 280, 60))), None);
     Ok(())
 }
 
 #[test]
 fn calls_in_the_air(rt: HostRuntime) -> Result<(), Fail> {
     let mut flight = in_the_air()?;
-    assert_eq!(rt; number(flight.uplift(1)), 16);
+    assert_eq!(rt; number(flight.uplift(1)), Some(16));
     assert_eq!(rt;
         flight.reading(),
         Reading {
@@ -314,24 +320,24 @@ fn calls_in_the_air(rt: HostRuntime) -> Result<(), Fail> {
             minimum: false,
         }
     );
-    assert_eq!(rt; number(flight.leg(1, figures(30000, 4500, 280, 60))), 0);
-    assert_eq!(rt; number(flight.leg(2, figures(30000, 4500, 280, 60))), 0);
-    assert_eq!(rt; number(flight.leg(3, figures(30000, 4500, 280, 60))), 0);
-    assert_eq!(rt; number(flight.jettison(1)), 0);
-    assert_eq!(rt; number(flight.touchdown()), 0);
-    assert_eq!(rt; number(flight.touchdown()), 16);
-    assert_eq!(rt; number(flight.uplift(1)), 0);
+    assert_eq!(rt; number(flight.leg(1, figures(30000, 4500, 280, 60))), None);
+    assert_eq!(rt; number(flight.leg(2, figures(30000, 4500, 280, 60))), None);
+    assert_eq!(rt; number(flight.leg(3, figures(30000, 4500, 280, 60))), None);
+    assert_eq!(rt; number(flight.jettison(1)), None);
+    assert_eq!(rt; number(flight.touchdown()), None);
+    assert_eq!(rt; number(flight.touchdown()), Some(16));
+    assert_eq!(rt; number(flight.uplift(1)), None);
     Ok(())
 }
 
 #[test]
 fn refused_starts(rt: HostRuntime) -> Result<(), Fail> {
-    assert_eq!(rt; starting(1000000001, 0, None)?, 13);
-    assert_eq!(rt; starting(50000000, 1000000001, None)?, 13);
-    assert_eq!(rt; starting(39999999, 0, Some(1000000001))?, 13);
-    assert_eq!(rt; starting(39999999, 1000000000, Some(1000000000))?, 14);
-    assert_eq!(rt; starting(50000000, 30000001, None)?, 24);
-    assert_eq!(rt; starting(40000000, 40000000, Some(1000000000))?, 0);
+    assert_eq!(rt; starting(1000000001, 0, None)?, Some(13));
+    assert_eq!(rt; starting(50000000, 1000000001, None)?, Some(13));
+    assert_eq!(rt; starting(39999999, 0, Some(1000000001))?, Some(13));
+    assert_eq!(rt; starting(39999999, 1000000000, Some(1000000000))?, Some(14));
+    assert_eq!(rt; starting(50000000, 30000001, None)?, Some(24));
+    assert_eq!(rt; starting(40000000, 40000000, Some(1000000000))?, None);
     Ok(())
 }
 
@@ -346,25 +352,25 @@ fn marks(rt: HostRuntime) -> Result<(), Fail> {
 #[test]
 fn refused_uplifts(rt: HostRuntime) -> Result<(), Fail> {
     let mut flight = on_stand()?;
-    assert_eq!(rt; number(flight.uplift(0)), 13);
-    assert_eq!(rt; number(flight.uplift(1000000001)), 13);
-    assert_eq!(rt; number(flight.uplift(20000001)), 24);
-    assert_eq!(rt; number(flight.uplift(20000000)), 0);
+    assert_eq!(rt; number(flight.uplift(0)), Some(13));
+    assert_eq!(rt; number(flight.uplift(1000000001)), Some(13));
+    assert_eq!(rt; number(flight.uplift(20000001)), Some(24));
+    assert_eq!(rt; number(flight.uplift(20000000)), None);
     let mut airborne = in_the_air()?;
-    assert_eq!(rt; number(airborne.uplift(0)), 13);
-    assert_eq!(rt; number(airborne.uplift(1000000000)), 16);
+    assert_eq!(rt; number(airborne.uplift(0)), Some(13));
+    assert_eq!(rt; number(airborne.uplift(1000000000)), Some(16));
     Ok(())
 }
 
 #[test]
 fn refused_jettisons(rt: HostRuntime) -> Result<(), Fail> {
     let mut flight = on_stand()?;
-    assert_eq!(rt; number(flight.jettison(0)), 13);
-    assert_eq!(rt; number(flight.jettison(1000000000)), 16);
+    assert_eq!(rt; number(flight.jettison(0)), Some(13));
+    assert_eq!(rt; number(flight.jettison(1000000000)), Some(16));
     let mut airborne = in_the_air()?;
-    assert_eq!(rt; number(airborne.jettison(1000000001)), 13);
-    assert_eq!(rt; number(airborne.jettison(9925398)), 25);
-    assert_eq!(rt; number(airborne.jettison(9925397)), 0);
+    assert_eq!(rt; number(airborne.jettison(1000000001)), Some(13));
+    assert_eq!(rt; number(airborne.jettison(9925398)), Some(25));
+    assert_eq!(rt; number(airborne.jettison(9925397)), None);
     assert_eq!(rt;
         airborne.reading(),
         Reading {
@@ -379,50 +385,71 @@ fn refused_jettisons(rt: HostRuntime) -> Result<(), Fail> {
 #[test]
 fn refused_legs(rt: HostRuntime) -> Result<(), Fail> {
     let mut flight = on_stand()?;
-    assert_eq!(rt; number(flight.leg(4, figures(40001, 299, 19, 0))), 15);
-    assert_eq!(rt; number(flight.leg(2, figures(40001, 299, 19, 0))), 16);
-    assert_eq!(rt; number(flight.leg(1, figures(40001, 299, 19, 0))), 17);
-    assert_eq!(rt; number(flight.leg(1, figures(40000, 299, 19, 0))), 18);
-    assert_eq!(rt; number(flight.leg(1, figures(40000, 300, 19, 0))), 19);
-    assert_eq!(rt; number(flight.leg(1, figures(40000, 300, 20, 0))), 20);
-    assert_eq!(rt; number(flight.leg(1, figures(40000, 300, 20, 1))), 22);
+    assert_eq!(rt; number(flight.leg(4, figures(40001, 299, 19, 0))), Some(15));
+    assert_eq!(rt; number(flight.leg(2, figures(40001, 299, 19, 0))), Some(16));
+    assert_eq!(rt; number(flight.leg(1, figures(40001, 299, 19, 0))), Some(17));
+    assert_eq!(rt; number(flight.leg(1, figures(40000, 299, 19, 0))), Some(18));
+    assert_eq!(rt; number(flight.leg(1, figures(40000, 300, 19, 0))), Some(19));
+    assert_eq!(rt; number(flight.leg(1, figures(40000, 300, 20, 0))), Some(20));
+    assert_eq!(rt; number(flight.leg(1, figures(40000, 300, 20, 1))), Some(22));
     let mut refusing = with_kind(thirsty(), 1)?;
-    assert_eq!(rt; number(refusing.leg(1, figures(30000, 300, 280, 60))), 22);
-    assert_eq!(rt; number(refusing.leg(1, figures(30000, 4500, 280, 60))), 23);
+    assert_eq!(rt;
+        number(refusing.leg(1, figures(30000, 300, 280, 60))),
+        Some(22)
+    );
+    assert_eq!(rt;
+        number(refusing.leg(1, figures(30000, 4500, 280, 60))),
+        Some(23)
+    );
     let mut short = with_kind(
         Jet {
             coefficients: sample_jet(),
         },
         1,
     )?;
-    assert_eq!(rt; number(short.leg(1, figures(30000, 4500, 280, 60))), 25);
-    assert_eq!(rt; number(short.leg(2, figures(30000, 4500, 280, 60))), 16);
+    assert_eq!(rt;
+        number(short.leg(1, figures(30000, 4500, 280, 60))),
+        Some(25)
+    );
+    assert_eq!(rt;
+        number(short.leg(2, figures(30000, 4500, 280, 60))),
+        Some(16)
+    );
     Ok(())
 }
 
-// Descents of a minute; the number of the first refusal, or 0.
-fn descend(flight: &mut Flight<Jet, Bench>, minutes: u64) -> u8 {
+// Descents of a minute, up to the first that is refused.
+fn descend(flight: &mut Flight<Jet, Bench>, minutes: u64) -> Result<(), Refusal> {
     for _ in 0..minutes {
-        let refusal = number(flight.leg(3, figures(30000, 4500, 280, 60)));
-        if refusal != 0 {
-            return refusal;
-        }
+        let _ = flight.leg(3, figures(30000, 4500, 280, 60))?;
     }
-    0
+    Ok(())
 }
 
 #[test]
 fn a_million_seconds(rt: HostRuntime) -> Result<(), Fail> {
     let mut flight = with_kind(sipping(), 10000000)?;
-    assert_eq!(rt; number(flight.leg(1, figures(30000, 4500, 280, 60))), 0);
+    assert_eq!(rt; number(flight.leg(1, figures(30000, 4500, 280, 60))), None);
     let climbed = flight.reading().mass;
-    assert_eq!(rt; descend(&mut flight, 16665), 0);
-    assert_eq!(rt; number(flight.leg(3, figures(30000, 4500, 280, 41))), 21);
-    assert_eq!(rt; number(flight.touchdown()), 0);
-    assert_eq!(rt; number(flight.leg(1, figures(30000, 4500, 280, 41))), 21);
-    assert_eq!(rt; number(flight.leg(1, figures(30000, 300, 280, 41))), 21);
-    assert_eq!(rt; number(flight.leg(1, figures(30000, 4500, 280, 40))), 0);
-    assert_eq!(rt; number(flight.leg(3, figures(30000, 4500, 280, 1))), 21);
+    assert_eq!(rt; number(descend(&mut flight, 16665)), None);
+    assert_eq!(rt;
+        number(flight.leg(3, figures(30000, 4500, 280, 41))),
+        Some(21)
+    );
+    assert_eq!(rt; number(flight.touchdown()), None);
+    assert_eq!(rt;
+        number(flight.leg(1, figures(30000, 4500, 280, 41))),
+        Some(21)
+    );
+    assert_eq!(rt;
+        number(flight.leg(1, figures(30000, 300, 280, 41))),
+        Some(21)
+    );
+    assert_eq!(rt; number(flight.leg(1, figures(30000, 4500, 280, 40))), None);
+    assert_eq!(rt;
+        number(flight.leg(3, figures(30000, 4500, 280, 1))),
+        Some(21)
+    );
     assert!(rt; climbed > flight.reading().mass);
     Ok(())
 }

@@ -4,4 +4,4 @@ use Rattle.flight.proofs.flight.Flight.reading.Goals as goal
 
 pub returns-clause-claims : goal.returns-clause-claims
 returns-clause-claims g c =
-    rw c.mass.ensures (keeps_to_the_book burn_near burn_rises burn_gains g.K.Kind.engine g.D.Day.air g.met.K.Kind.lawful g.met.D.Day.bounded c.args.self.now)
+    rw c.reading.ensures (keeps_to_the_book burn_near burn_rises burn_gains g.K.Kind.engine g.D.Day.air g.met.K.Kind.lawful g.met.D.Day.bounded c.args.self.now)
