@@ -15,15 +15,7 @@ impl fmt::Display for Lines<'_, Fault> {
     ghost output = { λ v. Some (fault_text v.0.now) };
 
     fn fmt<W: fmt::Write>(&self, f: &mut fmt::Formatter<W>) -> fmt::Result {
-        let fault = self.0;
-        write!(
-            f,
-            "no {} {} {} {}\n",
-            fault.number(),
-            fault.line(),
-            fault.field(),
-            fault.layer()
-        )
+        write!(f, "no {} {}\n", self.0, self.0.layer())
     }
 }
 
