@@ -3,7 +3,7 @@ ghost use Rattle.std.specs.Prelude.{Some};
 ghost use Rattle.opfcheck.specs.Listing.{fault_text, masses_text, row_text, rows_text, thrust_text, descent_text, fuel_text, listing_text};
 
 use aircraft::record::{Aircraft, Descent, Engine, Fuel, Masses, Row, Rows, Temperature};
-use aircraft::words::Configuration;
+use aircraft::words::{Configuration, EngineType};
 use refusal::fault::Fault;
 use std::fmt;
 
@@ -113,7 +113,7 @@ impl fmt::Display for Lines<'_, Aircraft> {
         write!(
             f,
             "engine {}\n{}alt_max {}\nwing_area {}\n",
-            a.engine.engine_type(),
+            EngineType::from(&a.engine),
             Lines(&a.masses),
             a.ceiling,
             a.wing
