@@ -15,7 +15,7 @@ pub(crate) enum Column {
 }
 
 impl Column {
-    // The number by which a leg names the phase.
+    // A leg names its phase by a number, since it refuses an unknown one.
     pub(crate) fn phase(self) -> u64 {
         match self {
             Column::Climb => 1,

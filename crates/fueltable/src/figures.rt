@@ -1,4 +1,5 @@
 // The figures of a table. A width that is asked of one is that of its whole text.
+// Two types: one with a constant for its decimals would need a power of ten, and a proof that it is not 0.
 ghost use Rattle.std.specs.Prelude.{◌≡◌, ◌*◌};
 
 use std::fmt;
@@ -40,9 +41,7 @@ impl FromStr for Tenths {
         if tenth.len() != 1 {
             return Err(NoFigure);
         }
-        Ok(Tenths(
-            whole.parse::<u16>()? as u32 * 10 + tenth.parse::<u8>()? as u32,
-        ))
+        Ok(Tenths(whole.parse::<u16>()? as u32 * 10 + tenth.parse::<u8>()? as u32))
     }
 }
 

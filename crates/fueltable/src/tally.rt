@@ -1,6 +1,6 @@
 // How far computed flows lie from the printed ones.
 ghost use Rattle.std.specs.Prelude.{◌≤◌};
-ghost use Rattle.fueltable.specs.Tallies.{farthest};
+ghost use Rattle.fueltable.specs.Table.{farthest};
 
 use crate::column::Column;
 use crate::figures::Thousandths;
