@@ -5,8 +5,8 @@ ghost use Rattle.engine.specs.Formulas.{thrust_factor, flow_of, too_thirsty, idl
 
 use crate::asked::Thrust;
 use aircraft::record::Fuel;
-use refusal::altitude::Altitude;
 use refusal::refusal::Refusal;
+use refusal::within::Altitude;
 
 // What is left of thrust at an altitude, in 10⁻⁹.
 pub(crate) fn thrust_factor(ctc2: u64, rise: u64, altitude: Altitude) -> u64
@@ -15,7 +15,7 @@ pub(crate) fn thrust_factor(ctc2: u64, rise: u64, altitude: Altitude) -> u64
     ensures value { result ≡ thrust_factor ctc2 rise altitude }
     ensures bound { result ≤ 1000000000 + rise }
 {
-    (1000000000 + rise).saturating_sub(1000000000 * altitude.feet / ctc2)
+    (1000000000 + rise).saturating_sub(1000000000 * altitude.number / ctc2)
 }
 
 // Nominal flow, refused where the specific consumption is above 4 kg per minute and kN.
@@ -25,11 +25,11 @@ pub(crate) fn nominal_flow(consumption: u64, thrust: Thrust) -> Result<u64, Refu
     if consumption > 400000000 {
         return Err(Refusal::Flow);
     }
-    Ok(consumption * thrust.millinewtons / 100000000)
+    Ok(consumption * thrust.number / 100000000)
 }
 
 pub(crate) fn idle_flow(fuel: &Fuel, altitude: Altitude) -> u64
     ensures { result ≡ idle_flow fuel.now altitude }
 {
-    fuel.cf3 * fuel.cf4.saturating_sub(altitude.feet) / fuel.cf4
+    fuel.cf3 * fuel.cf4.saturating_sub(altitude.number) / fuel.cf4
 }

@@ -7,8 +7,8 @@ use crate::asked::{Speed, Thrust};
 use crate::formulas::{idle_flow, nominal_flow};
 use crate::kind::Kind;
 use aircraft::record::Fuel;
-use refusal::altitude::Altitude;
 use refusal::refusal::Refusal;
+use refusal::within::Altitude;
 
 // What sets one such kind apart from another: its thrust and its specific consumption, and the fuel coefficients.
 // It proves `close`, that the answered values are near the exact ones.
@@ -41,19 +41,19 @@ impl<C: Coefficients> Kind for Installed<C> {
     ghost lawful = { λ s. burning_laws (C.formulas s.coefficients) (C.close s.coefficients) };
 
     fn thrust(&self, altitude: u64, speed: u64) -> Result<u64, Refusal> {
-        let altitude = Altitude::try_from(altitude)?;
-        let speed = Speed::try_from(speed)?;
+        let altitude = Altitude::new(altitude).ok_or(Refusal::TooHigh)?;
+        let speed = Speed::new(speed).ok_or(Refusal::Speed)?;
         Ok(self.coefficients.thrust(altitude, speed))
     }
 
     fn nominal(&self, speed: u64, thrust: u64) -> Result<u64, Refusal> {
-        let speed = Speed::try_from(speed)?;
-        let thrust = Thrust::try_from(thrust)?;
+        let speed = Speed::new(speed).ok_or(Refusal::Speed)?;
+        let thrust = Thrust::new(thrust).ok_or(Refusal::Flow)?;
         nominal_flow(self.coefficients.consumption(speed), thrust)
     }
 
     fn idle(&self, altitude: u64) -> Result<u64, Refusal> {
-        let altitude = Altitude::try_from(altitude)?;
+        let altitude = Altitude::new(altitude).ok_or(Refusal::TooHigh)?;
         Ok(idle_flow(self.coefficients.fuel(), altitude))
     }
 }

@@ -7,7 +7,7 @@ use crate::asked::Speed;
 use crate::formulas::thrust_factor;
 use crate::installed::{Coefficients, Installed};
 use aircraft::record::{Fuel, JetCoefficients};
-use refusal::altitude::Altitude;
+use refusal::within::Altitude;
 
 pub type Jet = Installed<JetCoefficients>;
 
@@ -16,7 +16,7 @@ fn rise(c: &JetCoefficients, altitude: Altitude) -> u64
     ensures value { result ≡ jet_rise c.now altitude }
     ensures bound { result ≤ 3599964000 }
 {
-    c.ctc3 * (altitude.feet * altitude.feet) / 10000000
+    c.ctc3 * (altitude.number * altitude.number) / 10000000
 }
 
 impl Coefficients for JetCoefficients {
@@ -34,6 +34,6 @@ impl Coefficients for JetCoefficients {
     }
 
     fn consumption(&self, speed: Speed) -> u64 {
-        self.fuel.cf1 * (self.fuel.cf2 + 10 * speed.tenths) / self.fuel.cf2
+        self.fuel.cf1 * (self.fuel.cf2 + 10 * speed.number) / self.fuel.cf2
     }
 }

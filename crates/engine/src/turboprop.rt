@@ -7,7 +7,7 @@ use crate::asked::Speed;
 use crate::formulas::thrust_factor;
 use crate::installed::{Coefficients, Installed};
 use aircraft::record::{Fuel, TurbopropCoefficients};
-use refusal::altitude::Altitude;
+use refusal::within::Altitude;
 
 pub type Turboprop = Installed<TurbopropCoefficients>;
 
@@ -16,7 +16,7 @@ fn propeller_thrust(c: &TurbopropCoefficients, speed: Speed) -> u64
     ensures value { result ≡ propeller_thrust c.now speed }
     ensures bound { result ≤ 3333300000 }
 {
-    10 * c.ctc1 / speed.tenths
+    10 * c.ctc1 / speed.number
 }
 
 // Specific consumption per 1,000 kt.
@@ -24,7 +24,7 @@ fn propeller_consumption(fuel: &Fuel, speed: Speed) -> u64
     ensures value { result ≡ propeller_consumption fuel.now speed }
     ensures bound { result ≤ 1000000000 }
 {
-    fuel.cf1 * fuel.cf2.saturating_sub(10 * speed.tenths) / fuel.cf2
+    fuel.cf1 * fuel.cf2.saturating_sub(10 * speed.number) / fuel.cf2
 }
 
 impl Coefficients for TurbopropCoefficients {
@@ -43,6 +43,6 @@ impl Coefficients for TurbopropCoefficients {
     }
 
     fn consumption(&self, speed: Speed) -> u64 {
-        propeller_consumption(&self.fuel, speed) * speed.tenths / 10000
+        propeller_consumption(&self.fuel, speed) * speed.number / 10000
     }
 }
