@@ -1,5 +1,5 @@
 -- The temperature factor, the available thrust and the thrust used are near their exact values, and stay within 0 and 10¹⁰ mN.
-use Rattle.std.proofs.Common.{ℕ, ◌+◌, ◌-◌, ◌*◌, ◌/◌, ◌^◌, ◌<◌, ◌≤◌, [], ◌∷◌, ℤ, pos, negsuc, arith}
+use Rattle.std.proofs.Common.{ℕ, ◌+◌, ◌-◌, ◌*◌, ◌/◌, ◌^◌, ◌<◌, ◌≤◌, [], ◌∷◌, ℤ, pos, arith, rules}
 use Rattle.exact.specs.Rational.{ℚ, nat, int, ◌-ℚ◌, ◌*ℚ◌, ◌÷ℚ◌, minℚ, maxℚ, ◌≤ℚ◌, ◌≈◌, Near}
 use Rattle.exact.proofs.Laws.{≤_trans, ≈_refl, nat-≥0, nat-≤, nat-<, nat-−, nat-*, nat_min, left_max, max-≤, min_left, min_right, ≤_min, *-≥0, *_mono₂, ÷-≤, ÷-≥0, near-≈, near_same, near_weaken, near-−, near_product, near_min, near_held, near_int_floor}
 use Rattle.exact.proofs.Linear.{linear, at, con, ◌⊕◌, ◌⊖◌, ◌⊛◌, ◌≼◌, ◌≋◌}
@@ -12,12 +12,10 @@ use Rattle.leg.specs.Rules.{greatest_loss, warming, held_loss, temperature_facto
 use Rattle.leg.specs.Exact.{exact_temperature, exact_available_thrust, exact_cruise_cap, exact_thrust_used}
 
 held_is : (z : ℤ) → nat (held_loss z) ≈ maxℚ (nat 0) (minℚ (nat greatest_loss) (int z))
-held_is (pos n) = omega arith
-held_is (negsuc n) = omega arith
+held_is z = search rules
 
 pub held_high : (z : ℤ) → held_loss z ≤ greatest_loss
-held_high (pos n) = omega arith
-held_high (negsuc n) = omega arith
+held_high z = search rules
 
 pub temperature_near : (t : Temperature) (deviation : ℤ) → Near (nat (temperature_factor t deviation)) (exact_temperature t deviation) (nat 1)
 unfolding exact_temperature
