@@ -1,8 +1,8 @@
 // Reads a script and writes the answers: at once where somebody types, in blocks where a file is piped.
 ghost use Rattle.sheet.specs.Sheets.{Keeps};
 
-use sheet::answer::Answer;
 use sheet::sheet::Sheet;
+use sheet::show::AnswerLine;
 use std::fmt::Write;
 use std::io;
 use std::io::{BufRead, BufReader, Read};
@@ -82,17 +82,11 @@ fn without_end(line: &[u8], ended: Ended) -> &[u8] {
     }
 }
 
-fn put(answer: Answer<'_>, out: &mut String) -> io::Result<()> {
-    match write!(out, "{answer}") {
-        Ok(()) => Ok(()),
-        Err(_) => Err(io::Error::from(io::ErrorKind::OutOfMemory)),
-    }
-}
-
 fn answer(sheet: &mut Sheet, line: &[u8], out: &mut String) -> io::Result<()>
     ensures { Keeps sheet.old sheet.new }
 {
-    put(sheet.line(line), out)
+    let answer = AnswerLine(sheet.line(line));
+    write!(out, "{answer}").map_err(|_| io::Error::from(io::ErrorKind::OutOfMemory))
 }
 
 // Writes what is due, and holds it no longer.
