@@ -36,7 +36,7 @@ fn flown(aircraft: &Aircraft, row: &Row, cell: Cell) -> Result<Flown, Refusal> {
         calibrated: row.calibrated as u64,
         seconds: 1,
     };
-    let mut flight = Flight::start(*aircraft, AnyKind::of(aircraft), Standard, start)?;
+    let mut flight = Flight::start(*aircraft, AnyKind::from(aircraft), Standard, start)?;
     let climbed = flight.leg(Column::Climb.phase(), climb)?;
     match cell.column {
         Column::Climb => Ok(climbed),

@@ -23,7 +23,7 @@ impl Sheet {
     {
         Sheet {
             aircraft,
-            kind: AnyKind::of(&aircraft),
+            kind: AnyKind::from(&aircraft),
             day: None,
             flight: None,
         }
