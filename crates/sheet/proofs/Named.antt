@@ -14,10 +14,10 @@ no_minus [] h = refl
 no_minus (b ∷ s) h = rw (ne_eqb b 45 (λ e. h s (ap (λ x. x ∷ s) e)))
 
 -- a start with a reserve
-pub reserved_start : (s rest fuel reserve : List ℕ) (z : ℕ) → number_of (first_word s) ≡ Some z → rest ≡ behind s → (fuel ≡ first_word rest) × (reserve ≡ behind rest) × (prefix_len no_space rest < length rest) → start_form s ≡ and_then (number_of fuel) (λ f. and_then (number_of reserve) (λ r. Some (form.Start (record { zero_fuel = z; fuel = f; reserve = Some r }))))
-reserved_start s rest fuel reserve z e r cut =
+pub reserved_start : (s : List ℕ) (z : ℕ) (rest fuel reserve : List ℕ) → (number_of (first_word s) ≡ Some z) × (rest ≡ behind s) → (fuel ≡ first_word rest) × (reserve ≡ behind rest) × (prefix_len no_space rest < length rest) → start_form s ≡ and_then (number_of fuel) (λ f. and_then (number_of reserve) (λ r. Some (form.Start (record { zero_fuel = z; fuel = f; reserve = Some r }))))
+reserved_start s z rest fuel reserve before cut =
     let m : has_more rest ≡ true = lt-ltb (prefix_len no_space rest) (length rest) cut.2 in
-    rw (e, ← r, m, cut.0, cut.1)
+    rw (before.0, ← before.1, m, cut.0, cut.1)
 
 cond_same : {A : Type 0} (b : Bool) (x : A) → cond b x x ≡ x
 cond_same true x = refl

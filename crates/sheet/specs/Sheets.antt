@@ -64,10 +64,10 @@ abbrev pub bench_noted : Result (ℕ × ℤ) Refusal → Result Noted Refusal
 bench_noted (Ok p) = Ok (bench p.0 p.1)
 bench_noted (Err e) = Err e
 
--- of a day that was asked for
-abbrev pub day_noted : Result AnyDay Refusal → Result Noted Refusal
-day_noted (Ok d) = Ok (noted d)
-day_noted (Err e) = Err e
+-- the day that a line asks for
+abbrev pub asked : Result AnyDay Refusal → Result Noted Refusal
+asked (Ok d) = Ok (noted d)
+asked (Err e) = Err e
 
 abbrev pub noted_day : Option AnyDay → Option Noted
 noted_day None = None

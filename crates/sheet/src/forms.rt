@@ -1,15 +1,16 @@
 // Reads the form of a script line.
-ghost use Rattle.std.specs.Prelude.{◌≡◌, true, OnSome};
+ghost use Rattle.std.specs.Prelude.{◌≡◌, true, false, MatchOption, OnSome};
 ghost use Rattle.text.specs.Bytes.{every, printable};
 ghost use Rattle.sheet.specs.Words.{first_word, NumberBefore};
 ghost use Rattle.sheet.specs.Forms.{bench_form, start_form, leg_form, form_by, form_of};
 
 use crate::form::Form;
 use crate::numbers::{deviation, number};
-use crate::scan::text_of;
 use flight::call::Call;
 use flight::start::Start;
 use leg::figures::Figures;
+use std::str;
+use text::bytes::is_printable;
 
 // The number before the first space, and what stands after the space.
 fn number_before(text: &str) -> Option<(u64, &str)>
@@ -57,6 +58,16 @@ fn leg_form(text: &str) -> Option<Form>
         seconds,
     };
     Some(Form::Call(Call::Leg { phase, figures }))
+}
+
+// A line with no byte outside 32 to 126 is text.
+pub(crate) fn text_of(line: &[u8]) -> Option<&str>
+    ensures { MatchOption result (every printable line.now ≡ false) (λ t. (t.now ≡ line.now) × (every printable line.now ≡ true)) }
+{
+    if !is_printable(line) {
+        return None;
+    }
+    str::from_utf8(line).ok()
 }
 
 // The form of a text by its first word.

@@ -1,11 +1,10 @@
 // What a script line does to a sheet.
-ghost use Rattle.sheet.specs.Sheets.{Fresh, DayLine, day_noted, StartLine, CallLine, Takes};
+ghost use Rattle.sheet.specs.Sheets.{Fresh, DayLine, asked, StartLine, CallLine, Takes};
 
 use crate::answer::Answer;
 use crate::calls::make;
 use crate::form::Form;
-use crate::forms::form_of_text;
-use crate::scan::text_of;
+use crate::forms::{form_of_text, text_of};
 use crate::sheet::Sheet;
 use air::bench::Bench;
 use air::days::AnyDay;
@@ -35,7 +34,7 @@ impl Sheet {
         day: Result<AnyDay, Refusal>,
         text: &'a str,
     ) -> Result<Answer<'a>, Refusal>
-        ensures { DayLine text.now (day_noted day) self.old result self.new }
+        ensures { DayLine text.now (asked day) self.old result self.new }
     {
         if self.flight.is_some() {
             return Err(Refusal::Script);

@@ -1,7 +1,7 @@
 use Rattle.std.proofs.Common.{◌≡◌, true, rules}
 use Rattle.text.specs.Bytes.{every, printable}
 use Rattle.sheet.proofs.Printable.{text_shown}
-use Rattle.sheet.proofs.scan.text_of.Goals as goal
+use Rattle.sheet.proofs.forms.text_of.Goals as goal
 
 pub returns : goal.returns
 returns c =
