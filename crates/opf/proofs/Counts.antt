@@ -1,25 +1,11 @@
--- Digits one by one, and powers of ten in a number's value.
-use Rattle.std.proofs.Common.{◌≡◌, ℕ, zero, suc, ◌+◌, ◌-◌, ◌*◌, ◌/◌, ◌%◌, ◌^◌, ◌<◌, ◌≤◌, Bool, true, false, cond, not, ◌&&◌, ◌||◌, eqb, leb, ◌⊎◌, List, length, get_or, drop, Some, None, Option, sym, refl, ap, ◌∙◌, ⊎_elim, add-zero, mod-eq_of_lt, zero-lt-suc, mul_assoc, mul_comm, mul-le-mul, mul-pos, pow-suc, zero-mul, mul-div_cancel, add-one, arith, pow-add}
+-- Powers of ten in a number's value.
+use Rattle.std.proofs.Common.{◌≡◌, ℕ, zero, suc, ◌+◌, ◌-◌, ◌*◌, ◌/◌, ◌%◌, ◌^◌, ◌<◌, ◌≤◌, Bool, true, false, cond, not, ◌&&◌, ◌||◌, eqb, leb, Some, None, Option, sym, refl, ap, ◌∙◌, ⊎_elim, add-zero, mod-eq_of_lt, zero-lt-suc, mul_assoc, mul_comm, mul-le-mul, mul-pos, zero-mul, mul-div_cancel, arith, pow-add}
 use native.Mathlib.Nat.{mul-mod_left, mul-div-mul_right, zero-mod, zero-div, pow-le-pow_right}
 use lib.Arith.{mod-mul}
-use Rattle.std.proofs.lemmas.List.{drop_more}
 use Rattle.std.proofs.lemmas.Bool.{eq-eqb, ne_eqb, le-leb, lt-leb, leb-true, and_left, and_right, cases_Bool}
-use Rattle.std.proofs.lemmas.Bool.Decides.{nat_tests}
 use Rattle.opf.specs.declared.number.Quantity.{Quantity}
-use Rattle.text.specs.Digits.{digit, digits_of}
 use Rattle.opf.specs.Numbers.{fixed_point, within, natural_from, signed_from, signed_value}
 use Rattle.opf.specs.Counts.{at_most}
-
-pub digits_yes : (n i : ℕ) (s : List ℕ) → i < length s → 48 ≤ get_or s i 0 → get_or s i 0 ≤ 57 → digits_of (n * 10 + (get_or s i 0 - 48)) (drop (i + 1) s) ≡ digits_of n (drop i s)
-digits_yes n i s h p q = let e : digit (get_or s i 0) ≡ true = grind (arith, nat_tests) in rw (drop_more s i 0, e)
-
-pub digits_no : (n i : ℕ) (s : List ℕ) → i < length s → (get_or s i 0 < 48) ⊎ (57 < get_or s i 0) → digits_of n (drop i s) ≡ None
-digits_no n i s h p =
-    let e : digit (get_or s i 0) ≡ false = ⊎_elim (λ x. grind (arith, nat_tests)) (λ x. grind (arith, nat_tests)) p in
-    rw (drop_more s i 0, e)
-
-pub more_digits : (n d i : ℕ) → n < 10 ^ i → d < 10 → n * 10 + d < 10 ^ (i + 1)
-more_digits n d i p q = let e : 10 ^ (i + 1) ≡ 10 ^ i * 10 = rw add-one (pow-suc 10 i) in omega (arith, e)
 
 pub ten_pos : (n : ℕ) → 0 < 10 ^ n
 ten_pos n = pow-le-pow_right {n = 10} (omega arith) {i = 0} {j = n} (omega arith)

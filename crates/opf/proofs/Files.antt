@@ -1,5 +1,5 @@
 -- The lines of a file one by one.
-use Rattle.std.proofs.Common.{◌≡◌, ℕ, ◌+◌, Bool, true, false, cond, eqb, List, [], ◌∷◌, ◌++◌, Some, None, Ok, Err, Option, sym, refl, ap, ◌∙◌, arith}
+use Rattle.std.proofs.Common.{◌≡◌, ℕ, ◌+◌, Bool, true, false, cond, eqb, List, [], ◌∷◌, ◌++◌, None, Ok, Err, Option, sym, refl, ap, ◌∙◌}
 use Rattle.std.proofs.lemmas.List.{append_assoc, append-nil}
 use Rattle.std.proofs.lemmas.Bool.{eqb-true, and_parts}
 use Rattle.refusal.specs.declared.fault.Fault.{Fault}
@@ -8,21 +8,14 @@ use Rattle.aircraft.specs.declared.draft.Draft.{Draft}
 use Rattle.aircraft.specs.Drafts.{empty_draft}
 use Rattle.opf.specs.Faults.{unless, or_else, judge}
 use Rattle.text.specs.Bytes.{every, is_byte}
-use Rattle.opf.specs.Text.{line_of, letters, Line, comment, data_line, last}
-use Rattle.opf.specs.Fields.{fields}
+use Rattle.opf.specs.Text.{line_of, letters}
 use Rattle.opf.specs.Numbers.{number_of}
 use Rattle.opf.specs.DataLines.{Fields, natural, integer}
-use Rattle.opf.specs.Files.{by_line, own_fields, is_end, data_lines, line_fault, blank, lines_fault, draft_of}
+use Rattle.opf.specs.Files.{own_fields, is_end, data_lines, line_fault, blank, lines_fault, draft_of}
 
 pub empty_is : empty_draft ≡ draft_of []
 unfolding natural integer number_of
 empty_is = refl
-
-end_has_none : (o : Option Line) → by_line o false (λ s. false) true false ≡ true → ◌≡◌ {A = List Fields} (by_line o [] (λ s. fields s ∷ []) [] []) []
-end_has_none None e = refl
-end_has_none (Some (comment s)) e = refl
-end_has_none (Some (data_line s)) e = absurd (let z : ◌≡◌ {A = ℕ} 0 1 = cc in omega arith)
-end_has_none (Some (last s)) e = refl
 
 -- a line of CR alone is no data line
 cr_letters : (a b : ℕ) (rest : List ℕ) → a ≡ 13 → letters a b rest ≡ None
@@ -71,6 +64,3 @@ module _ (all left : List (List ℕ)) (m n : ℕ) (d : List Fields) (l : List �
   unfolding next_fault
   ends_badly e b =
       ap (λ (f : Option Fault). judge f (draft_of (data_lines all))) (sym (rest_fault ∙ ap (next_fault n) (sym e) ∙ ap (λ (t : Bool). unless t (fault.AfterEnd n)) (sym b)))
-
-pub no_end : (all : List (List ℕ)) (n : ℕ) (d : List Fields) → lines_fault n d [] ≡ lines_fault 1 [] all → Err fault.NoEnd ≡ judge (lines_fault 1 [] all) (draft_of (data_lines all))
-no_end all n d e = ap (λ (f : Option Fault). judge f (draft_of (data_lines all))) e

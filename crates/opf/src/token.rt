@@ -27,6 +27,7 @@ pub(crate) fn check_text(line: &[u8], number: u32) -> Result<(), Fault>
 }
 
 // What a line is by its two letters.
+#[tactic(auto, using(std::proofs::lemmas::List::take_rest))]
 pub(crate) fn line_token(line: &[u8]) -> Option<Token<'_>>
     ensures { line_seen result ≡ line_of line.now }
 {
