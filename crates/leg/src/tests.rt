@@ -222,7 +222,7 @@ fn refusal_of(
     };
     match setting.fly(phase, &request, Mass { milligrams }) {
         Ok(_) => Ok(0),
-        Err(refusal) => Ok(refusal.number()),
+        Err(refusal) => Ok(u8::from(refusal)),
     }
 }
 
@@ -230,7 +230,7 @@ fn refusal_of(
 fn figures(altitude: u64, speed: u64, calibrated: u64, seconds: u64) -> u8 {
     match Request::new(&sample(), asked(altitude, speed, calibrated, seconds)) {
         Ok(_) => 0,
-        Err(refusal) => refusal.number(),
+        Err(refusal) => u8::from(refusal),
     }
 }
 

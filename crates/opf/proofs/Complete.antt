@@ -1,5 +1,5 @@
 -- A file without a fault gives a plain record within its ranges, and an aircraft with these values is what the file prints.
-use Rattle.std.proofs.Common.{◌≡◌, ℕ, ◌-◌, ◌≤◌, Bool, true, leb, List, [], ◌∷◌, length, get_or, take, ℤ, is_some, Some, None, Ok, Option, unwrap_or, sym, refl, ap, ◌∙◌, subst, arith}
+use Rattle.std.proofs.Common.{◌≡◌, ℕ, ◌-◌, ◌≤◌, Bool, true, leb, List, [], ◌∷◌, length, get_or, take, ℤ, is_some, Some, None, Ok, Option, IfSome, unwrap_or, sym, refl, ap, ◌∙◌, subst, arith}
 use Rattle.std.proofs.lemmas.List.{get_or-take}
 use Rattle.std.proofs.lemmas.Int.{ints}
 use Rattle.std.proofs.lemmas.Bool.{leb-true, le-leb, and_parts}
@@ -17,7 +17,6 @@ use Rattle.aircraft.specs.declared.record.Row.{Row}
 use Rattle.aircraft.specs.declared.draft.Draft.{Draft}
 use Rattle.aircraft.specs.declared.draft.DraftRow.{DraftRow}
 use Rattle.aircraft.specs.declared.draft.DraftThrust.{DraftThrust}
-use Rattle.aircraft.specs.Drafts.{no_row}
 use Rattle.aircraft.specs.Words.{engine_word, engine_type, engine_named}
 use Rattle.opf.specs.declared.number.Quantity.{Quantity}
 use Rattle.opf.specs.Faults.{unless, or_else, first_of, judge}
@@ -25,7 +24,7 @@ use Rattle.opf.specs.Text.{lines}
 use Rattle.opf.specs.Fields.{field}
 use Rattle.opf.specs.DataLines.{Fields, nth_line, natural, engine_of, masses_of, in_order, thrust_of, thrust_faults, ctc3_fault, row_from, line_naming, configuration_lines, parasitic, one_faults, two_faults}
 use Rattle.opf.specs.Files.{draft_of, lines_fault, data_lines, read_file}
-use Rattle.opf.specs.Records.{values_of, thrust_values, row_values, Ranged, RangedRow, RangedThrust}
+use Rattle.opf.specs.Records.{values_of, thrust_values, row_values, Ranged, GivenRow, RangedThrust}
 use Rattle.opf.specs.Printed.{Prints, PrintsCount, line_of, RowPrinted, ThrustPrinted, Printed}
 use Rattle.opf.specs.Quantities as quantity
 use Rattle.opf.proofs.Accepted.{NaturalRead, natural_clear, IntegerRead, integer_clear}
@@ -131,13 +130,19 @@ temperature_is (kind.Jet c) t = (refl, refl)
 temperature_is (kind.Turboprop c) t = (refl, refl)
 
 -- the row that is read
-row_is : {d : List Fields} {c : Configuration} (r : RowRead d c) → row_from (line_naming c (configuration_lines d)) ≡ record { stall = natural r.fs (length r.fs - 3) quantity.stall_speed; cd0 = natural r.fs (length r.fs - 2) (quantity.parasitic_drag c); cd2 = natural r.fs (length r.fs - 1) quantity.drag; given = true }
-row_is r = ap row_from r.line ∙ ap (λ (o : Option Configuration). record { stall = natural r.fs (length r.fs - 3) quantity.stall_speed; cd0 = natural r.fs (length r.fs - 2) (parasitic o); cd2 = natural r.fs (length r.fs - 1) quantity.drag; given = true }) r.own
+abbrev row_that : {d : List Fields} {c : Configuration} → RowRead d c → DraftRow
+row_that {d} {c} r = record { stall = natural r.fs (length r.fs - 3) quantity.stall_speed; cd0 = natural r.fs (length r.fs - 2) (quantity.parasitic_drag c); cd2 = natural r.fs (length r.fs - 1) quantity.drag }
 
-row_ranged : {d : List Fields} {c : Configuration} → RowRead d c → RangedRow (row_from (line_naming c (configuration_lines d)))
+row_is : {d : List Fields} {c : Configuration} (r : RowRead d c) → row_from (line_naming c (configuration_lines d)) ≡ Some (row_that r)
+row_is r = ap row_from r.line ∙ ap (λ (o : Option Configuration). Some (record { stall = natural r.fs (length r.fs - 3) quantity.stall_speed; cd0 = natural r.fs (length r.fs - 2) (parasitic o); cd2 = natural r.fs (length r.fs - 1) quantity.drag })) r.own
+
+some_same : {X : Type 0} {x y : X} → Some x ≡ Some y → x ≡ y
+some_same e = cc
+
+row_ranged : {d : List Fields} {c : Configuration} → RowRead d c → GivenRow (row_from (line_naming c (configuration_lines d)))
 row_ranged {d} {c} r =
-    subst RangedRow (sym (row_is r))
-    (record { slowest = r.stall.least; fastest = r.stall.most; parasitic = drag_most c _ r.cd0.most; induced = r.cd2.most; given = refl })
+    subst GivenRow (sym (row_is r))
+    (record { slowest = r.stall.least; fastest = r.stall.most; parasitic = drag_most c _ r.cd0.most; induced = r.cd2.most })
 
 engine_worded : (s : List ℕ) (o : Option EngineType) → engine_named s ≡ o → is_some o ≡ true → s ≡ engine_word (unwrap_or o engine.Jet)
 engine_worded s None e h = absurd (let z : ◌≡◌ {A = ℕ} 0 1 = cc in omega arith)
@@ -237,7 +242,7 @@ module _ {d : List Fields} (w : Whole d) where
               takeoff = row_ranged (row_read w flaps.TakeOff);
               approach = row_ranged (row_read w flaps.Approach);
               landing = row_ranged (row_read w flaps.Landing);
-              clean = subst (λ (r : DraftRow). 100000 ≤ r.cd0) (sym (row_is (row_read w flaps.Cruise))) (row_read w flaps.Cruise).cd0.least;
+              clean = subst (λ (o : Option DraftRow). IfSome o (λ r. 100000 ≤ r.cd0)) (sym (row_is (row_read w flaps.Cruise))) (row_read w flaps.Cruise).cd0.least;
             };
         gear_most = gear_read.most;
         thrust = thrust_ranged (engine_of (nth_line d 1)) (nth_line d 16) thrust_read;
@@ -264,10 +269,10 @@ module _ {d : List Fields} (w : Whole d) where
     prints : {fs : Fields} {k : ℕ} {q : Quantity} (g : Draft → ℕ) → g (draft_of d) ≡ natural fs k q → NaturalRead fs k q → PrintsCount (field fs k) q (g (values_of a))
     prints {fs} {k} {q} g e r = subst (λ (v : ℕ). PrintsCount (field fs k) q v) (sym (ap g same ∙ e)) r.prints
 
-    row_printed : (c : Configuration) (r : Row) (g : Draft → DraftRow) → g (draft_of d) ≡ row_from (line_naming c (configuration_lines d)) → row_values r ≡ g (values_of a) → RowPrinted (line_of d c) c r
+    row_printed : (c : Configuration) (r : Row) (g : Draft → Option DraftRow) → g (draft_of d) ≡ row_from (line_naming c (configuration_lines d)) → Some (row_values r) ≡ g (values_of a) → RowPrinted (line_of d c) c r
     row_printed c r g e f =
         let x = row_read w c in
-        let held = f ∙ ap g same ∙ e ∙ row_is x in
+        let held : row_values r ≡ row_that x = some_same (f ∙ ap g same ∙ e ∙ row_is x) in
         subst (λ (fs : Fields). RowPrinted fs c r) (sym (ap (λ (o : Option Fields). unwrap_or o []) x.line))
         (record {
           word = x.word;
@@ -285,11 +290,11 @@ module _ {d : List Fields} (w : Whole d) where
           maximum = prints (λ x. x.masses.maximum) refl masses_read.maximum;
           ceiling = prints (λ x. x.ceiling) refl ceiling_read;
           wing = prints (λ x. x.wing) refl wing_read;
-          cruise_row = row_printed flaps.Cruise a.rows.cruise (λ x. get_or x.rows 0 no_row) refl refl;
-          initial_row = row_printed flaps.InitialClimb a.rows.initial (λ x. get_or x.rows 1 no_row) refl refl;
-          takeoff_row = row_printed flaps.TakeOff a.rows.takeoff (λ x. get_or x.rows 2 no_row) refl refl;
-          approach_row = row_printed flaps.Approach a.rows.approach (λ x. get_or x.rows 3 no_row) refl refl;
-          landing_row = row_printed flaps.Landing a.rows.landing (λ x. get_or x.rows 4 no_row) refl refl;
+          cruise_row = row_printed flaps.Cruise a.rows.cruise (λ x. get_or x.rows 0 None) refl refl;
+          initial_row = row_printed flaps.InitialClimb a.rows.initial (λ x. get_or x.rows 1 None) refl refl;
+          takeoff_row = row_printed flaps.TakeOff a.rows.takeoff (λ x. get_or x.rows 2 None) refl refl;
+          approach_row = row_printed flaps.Approach a.rows.approach (λ x. get_or x.rows 3 None) refl refl;
+          landing_row = row_printed flaps.Landing a.rows.landing (λ x. get_or x.rows 4 None) refl refl;
           gear = prints (λ x. x.gear) refl gear_read;
           thrust = thrust_printed a.engine a.temperature (engine_of (nth_line d 1)) (nth_line d 16) (ap (λ (x : Draft). x.engine) same) (ap (λ (x : Draft). x.thrust) same) thrust_read;
           ctc4 = subst (λ (v : ℤ). Prints (field (nth_line d 16) 4) quantity.ctc4 v) (sym (ap (λ (x : Draft). x.thrust.ctc4) same) ∙ (temperature_is a.engine a.temperature).0) thrust_read.ctc4.prints;

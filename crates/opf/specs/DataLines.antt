@@ -1,5 +1,5 @@
 -- What is read of each data line, from its fields fs; n is the line's number in the text.
-use Rattle.std.specs.Prelude.{ℕ, ◌+◌, ◌-◌, Bool, true, cond, not, ◌&&◌, List, [], ◌∷◌, length, take, drop, ℤ, pos, is_some, Some, None, Option, ◌==◌, nat_le, slice_index_or}
+use Rattle.std.specs.Prelude.{ℕ, ◌+◌, ◌-◌, Bool, cond, not, ◌&&◌, List, [], ◌∷◌, length, take, drop, ℤ, pos, is_some, Some, None, Option, ◌==◌, nat_le, slice_index_or}
 use Rattle.std.specs.Option.{unwrap_or}
 use Rattle.std.specs.Str.{bytes_eq}
 use Rattle.refusal.specs.declared.fault.Fault.{Fault}
@@ -13,7 +13,6 @@ use Rattle.aircraft.specs.declared.draft.DraftThrust.{DraftThrust}
 use Rattle.aircraft.specs.declared.draft.DraftDescent.{DraftDescent}
 use Rattle.aircraft.specs.declared.draft.DraftConsumption.{DraftConsumption}
 use Rattle.aircraft.specs.declared.draft.DraftIdle.{DraftIdle}
-use Rattle.aircraft.specs.Drafts.{no_row}
 use Rattle.aircraft.specs.Words.{engine_named, configuration_named, configuration_word}
 use Rattle.opf.specs.declared.number.Number.{Number}
 use Rattle.opf.specs.declared.number.Quantity.{Quantity}
@@ -110,12 +109,11 @@ row_of fs =
       stall = natural fs (length fs - 3) quantity.stall_speed;
       cd0 = natural fs (length fs - 2) (parasitic (configuration_of fs));
       cd2 = natural fs (length fs - 1) quantity.drag;
-      given = true;
     }
 
-abbrev pub row_from : Option Fields → DraftRow
-row_from None = no_row
-row_from (Some fs) = row_of fs
+abbrev pub row_from : Option Fields → Option DraftRow
+row_from None = None
+row_from (Some fs) = Some (row_of fs)
 
 -- a known word, of a configuration that did not come before
 abbrev pub new_fault : ℕ → (Configuration → Bool) → Option Configuration → Option Fault

@@ -1,7 +1,6 @@
 // What is read of each data line.
 ghost use Rattle.std.specs.Prelude.{◌≡◌, ◌≤◌, length, Some};
 ghost use Rattle.aircraft.specs.Words.{configuration_row};
-ghost use Rattle.aircraft.specs.Drafts.{no_row};
 ghost use Rattle.opf.specs.Faults.{first_of, Judges};
 ghost use Rattle.opf.specs.Lines.{line_fields};
 ghost use Rattle.opf.specs.DataLines.{engine_faults, engine_of, masses_faults, masses_of, natural, one_faults, configuration_of, row_faults, row_of, thrust_faults, thrust_of, ctc3_fault, ctc3_of, descent_faults, descent_of, two_faults, consumption_of, idle_of};
@@ -20,13 +19,11 @@ pub(crate) fn engine(line: &DataLine) -> Result<EngineType, Fault>
     ensures { Judges result (first_of (engine_faults line.now.number (line_fields line.now))) (engine_of (line_fields line.now)) }
 {
     line.at_least(4)?;
-    match EngineType::named(line.field(4)) {
-        Some(e) => Ok(e),
-        None => Err(Fault::Word {
-            line: line.number,
-            field: 4,
-        }),
-    }
+    let unknown = Fault::Word {
+        line: line.number,
+        field: 4,
+    };
+    EngineType::try_from(line.field(4)).map_err(|_| unknown)
 }
 
 pub(crate) fn masses(line: &DataLine) -> Result<DraftMasses, Fault>
@@ -130,10 +127,5 @@ pub(crate) fn row(line: &DataLine, count: u32, c: Configuration) -> Result<Draft
     let stall = line.count(count - 3, quantities::STALL_SPEED)?;
     let cd0 = line.count(count - 2, quantities::parasitic_drag(c))?;
     let cd2 = line.count(count - 1, quantities::DRAG)?;
-    Ok(DraftRow {
-        stall,
-        cd0,
-        cd2,
-        given: true,
-    })
+    Ok(DraftRow { stall, cd0, cd2 })
 }

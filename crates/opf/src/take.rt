@@ -21,18 +21,13 @@ fn take_row(draft: &mut Draft, line: &DataLine) -> Result<(), Fault>
     if count < 6 {
         return Err(Fault::FieldCount { line: line.number });
     }
-    let Some(c) = Configuration::named(line.field(2)) else {
-        return Err(Fault::Word {
-            line: line.number,
-            field: 2,
-        });
+    let unknown = Fault::Word {
+        line: line.number,
+        field: 2,
     };
-    let i = c.row();
-    if draft.rows[i].given {
-        return Err(Fault::Word {
-            line: line.number,
-            field: 2,
-        });
+    let c = Configuration::try_from(line.field(2)).map_err(|_| unknown)?;
+    if draft.rows[c.row()].is_some() {
+        return Err(unknown);
     }
     let row = reading::row(line, count as u32, c)?;
     draft.fill(c, row);
