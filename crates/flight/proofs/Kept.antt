@@ -16,14 +16,15 @@ use Rattle.leg.specs.Exact.{exact_burn}
 use Rattle.leg.proofs.Answered.{drag_pair_bounds, accepted as accepted_leg_at}
 use Rattle.leg.specs.Nearness.{leg_rate, BurnNear, BurnRises, BurnGains}
 use Rattle.flight.specs.declared.status.State.{State}
-use Rattle.flight.specs.declared.states.Call.TheVariants as call
+use Rattle.flight.specs.declared.states.Transition.TheVariants as transition
 use Rattle.flight.specs.declared.start.Start.{Start}
 use Rattle.flight.specs.declared.call.Call.{Call}
 use Rattle.flight.specs.declared.call.Call.TheVariants.{Leg, Uplift, Jettison, Touchdown}
 use Rattle.flight.specs.Calls.{Setting, in_mg, starting_mass, starting_reserve, Answer, Event}
 use Rattle.flight.specs.Book.{told, by_phase, book_burn, book_mass, allowance, allowed}
 use Rattle.flight.specs.States.{next_state}
-use Rattle.flight.specs.Accounts.{Account, mass_of, changed, unless, and_then, start_outcome, start_grams, first_account, Done, Outcome, answered, left_by, silent, some_grams, outcome}
+use Rattle.flight.specs.Account.{Account}
+use Rattle.flight.specs.Accounts.{mass_of, changed, unless, and_then, start_outcome, start_grams, first_account, Done, Outcome, answered, left_by, silent, some_grams, outcome}
 use Rattle.flight.specs.Claims.{put_in, thrown_out, burned_by, summed}
 use Rattle.flight.proofs.Outcomes.{then_ok, unless_ok, LegAccepted, leg_ok}
 use Rattle.flight.proofs.Step as step
@@ -154,8 +155,8 @@ module _ (near : BurnNear) (rises : BurnRises) (gains : BurnGains) (rate : Phase
       let m = w.aircraft.masses.maximum in
       let left : State → Account = λ next. changed l next (l.fuel + in_mg g) l.seconds in
       let weighed : State → Outcome (Unit {0}) = λ next. unless refusal.Overweight (leb (mass_of l + in_mg g) (in_mg m)) (silent (left next)) in
-      let p1 = unless_ok refusal.Grams (some_grams g) (and_then (next_state l.state call.Uplift) weighed) d q in
-      let p2 = then_ok (next_state l.state call.Uplift) weighed d p1.1 in
+      let p1 = unless_ok refusal.Grams (some_grams g) (and_then (next_state l.state transition.Uplift) weighed) d q in
+      let p2 = then_ok (next_state l.state transition.Uplift) weighed d p1.1 in
       let p3 = unless_ok refusal.Overweight (leb (mass_of l + in_mg g) (in_mg m)) (silent (left p2.0)) d p2.2 in
       let below = leb-true (mass_of l + in_mg g) (in_mg m) p3.0 in
       let after =
@@ -170,8 +171,8 @@ module _ (near : BurnNear) (rises : BurnRises) (gains : BurnGains) (rate : Phase
   accepted_jettison g d q =
       let left : State → Account = λ next. changed l next (l.fuel - in_mg g) l.seconds in
       let fuelled : State → Outcome (Unit {0}) = λ next. unless refusal.FuelShort (leb (in_mg g) l.fuel) (silent (left next)) in
-      let p1 = unless_ok refusal.Grams (some_grams g) (and_then (next_state l.state call.Jettison) fuelled) d q in
-      let p2 = then_ok (next_state l.state call.Jettison) fuelled d p1.1 in
+      let p1 = unless_ok refusal.Grams (some_grams g) (and_then (next_state l.state transition.Jettison) fuelled) d q in
+      let p2 = then_ok (next_state l.state transition.Jettison) fuelled d p1.1 in
       let p3 = unless_ok refusal.FuelShort (leb (in_mg g) l.fuel) (silent (left p2.0)) d p2.2 in
       let enough = leb-true (in_mg g) l.fuel p3.0 in
       let after =
@@ -185,7 +186,7 @@ module _ (near : BurnNear) (rises : BurnRises) (gains : BurnGains) (rate : Phase
   accepted_touchdown : (d : Done (Unit {0})) → outcome w l Touchdown ≡ Ok d → InStep rate w s (made_of Touchdown (Ok d.answer) es) d.left
   accepted_touchdown d q =
       let left : State → Account = λ next. changed l next l.fuel l.seconds in
-      let p1 = then_ok (next_state l.state call.Touchdown) (λ next. silent (left next)) d q in
+      let p1 = then_ok (next_state l.state transition.Touchdown) (λ next. silent (left next)) d q in
       let after = with_fuel Touchdown tt p1.0 l.fuel before.close (omega arith) before.heavy (omega (arith, before.balance)) in
       silent_left (λ e. InStep rate w s (made_of Touchdown (Ok e.answer) es) e.left) (left p1.0) d p1.2 after
 

@@ -11,11 +11,12 @@ use Rattle.leg.specs.Requests.{InRange, taken_figures}
 use Rattle.leg.specs.Legs.{leg_answer}
 use Rattle.leg.proofs.Answered.{taken_is}
 use Rattle.flight.specs.declared.status.State.{State}
-use Rattle.flight.specs.declared.states.Call.TheVariants as call
+use Rattle.flight.specs.declared.states.Transition.TheVariants as transition
 use Rattle.flight.specs.declared.call.Call.TheVariants.{Leg}
 use Rattle.flight.specs.Calls.{Setting}
 use Rattle.flight.specs.States.{next_state}
-use Rattle.flight.specs.Accounts.{Account, mass_of, changed, unless, and_then, most_seconds, Done, Outcome, leg_fuelled, leg_taken, outcome}
+use Rattle.flight.specs.Account.{Account}
+use Rattle.flight.specs.Accounts.{mass_of, changed, unless, and_then, most_seconds, Done, Outcome, leg_fuelled, leg_taken, outcome}
 
 pub then_ok : {A B : Type 0} (r : Result A Refusal) (f : A → Result B Refusal) (b : B) → and_then r f ≡ Ok b → (a : A) × (r ≡ Ok a) × (f a ≡ Ok b)
 then_ok (Ok a) f b q = (a, refl, q)
@@ -55,10 +56,10 @@ module _ (w : Setting) (l : Account) (n : ℕ) (x : Figures) (d : Done Flown) wh
   pub leg_ok : outcome w l (Leg n x) ≡ Ok d → LegAccepted w l n x d
   leg_ok q =
       let from_state : Phase → State → Outcome Flown = λ p next. and_then (taken_figures w.aircraft x) (leg_taken w l p next) in
-      let from_phase : Phase → Outcome Flown = λ p. and_then (next_state l.state (call.Leg p)) (from_state p) in
+      let from_phase : Phase → Outcome Flown = λ p. and_then (next_state l.state (transition.Leg p)) (from_state p) in
       let numbered = then_ok (phase_numbered n) from_phase d q in
       let p = numbered.0 in
-      let state = then_ok (next_state l.state (call.Leg p)) (from_state p) d numbered.2 in
+      let state = then_ok (next_state l.state (transition.Leg p)) (from_state p) d numbered.2 in
       let taken = then_ok (taken_figures w.aircraft x) (leg_taken w l p state.0) d state.2 in
       let figures = taken_is w.aircraft x taken.0 (sym taken.1) in
       let P : Figures → Type 0 = λ y. leg_taken w l p state.0 y ≡ Ok d in

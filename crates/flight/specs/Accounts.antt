@@ -1,10 +1,10 @@
 -- What a flight keeps, what it answers to each call, and what each call leaves.
---   Account                     state, masses in mg, and seconds flown
 --   start_outcome               the account of an accepted start
 --   outcome                     the answer to a later call with the account that it leaves, or the first refusal that holds
 --   answered left_by            the answer alone, and what is left; a refusal leaves the account as it was
 --   reading_of                  mass, fuel and minimum-fuel mark
 use Rattle.std.specs.Prelude.{ℕ, ◌+◌, ◌-◌, ◌^◌, Bool, cond, ◌&&◌, Ok, Err, Result, nat_le, nat_lt}
+use Rattle.std.specs.Result.{result_map_both}
 use Rattle.refusal.specs.declared.refusal.Refusal.{Refusal}
 use Rattle.refusal.specs.declared.refusal.Refusal.TheVariants as refusal
 use Rattle.aircraft.specs.declared.record.Aircraft.{Aircraft}
@@ -17,24 +17,13 @@ use Rattle.leg.specs.Legs.{leg_answer}
 use Rattle.flight.specs.declared.reading.Reading.{Reading}
 use Rattle.flight.specs.declared.status.State.{State}
 use Rattle.flight.specs.declared.status.State.TheVariants.{Stand}
-use Rattle.flight.specs.declared.status.Status.{Status}
-use Rattle.flight.specs.declared.status.Step.{Step}
-use Rattle.flight.specs.declared.states.Call.TheVariants as call
+use Rattle.flight.specs.declared.states.Transition.TheVariants as transition
 use Rattle.flight.specs.declared.start.Start.{Start}
 use Rattle.flight.specs.declared.call.Call.{Call}
 use Rattle.flight.specs.declared.call.Call.TheVariants.{Leg, Uplift, Jettison, Touchdown}
 use Rattle.flight.specs.Calls.{Setting, in_mg, reserve_or_default, starting_mass, starting_reserve, Answer}
+use Rattle.flight.specs.Account.{Account}
 use Rattle.flight.specs.States.{next_state}
-
-pub record Account : Type 0 where
-  pub state : State
-  pub zero_fuel : ℕ
-  pub fuel : ℕ
-  pub reserve : ℕ
-  pub seconds : ℕ
-
-abbrev pub account_of : Status → Account
-account_of s = record { state = s.state; zero_fuel = s.zero_fuel; fuel = s.fuel; reserve = s.reserve; seconds = s.seconds }
 
 abbrev pub mass_of : Account → ℕ
 mass_of l = l.zero_fuel + l.fuel
@@ -75,6 +64,10 @@ start_outcome a s =
     (unless refusal.ZeroFuel (nat_le a.masses.minimum s.zero_fuel)
     (unless refusal.Overweight (nat_le (starting_mass s) (in_mg a.masses.maximum)) (Ok (first_account s))))
 
+-- what is kept where a start is accepted
+abbrev pub begun : {A : Type 0} → (A → Account) → Result A Refusal → Result Account Refusal
+begun kept = result_map_both kept (λ e. e)
+
 -- Later calls.
 
 pub record Done (A : Type 0) : Type 0 where
@@ -109,7 +102,7 @@ leg_taken w l p next x =
 abbrev pub leg_outcome : Setting → Account → (phase : ℕ) → Figures → Outcome Flown
 leg_outcome w l n x =
     and_then (phase_numbered n) (λ p.
-    and_then (next_state l.state (call.Leg p)) (λ next.
+    and_then (next_state l.state (transition.Leg p)) (λ next.
     and_then (taken_figures w.aircraft x) (leg_taken w l p next)))
 
 -- no less than a gram
@@ -119,34 +112,20 @@ some_grams = from_to 1 most_grams
 abbrev pub uplift_outcome : Aircraft → Account → (grams : ℕ) → Outcome (Unit {0})
 uplift_outcome a l grams =
     unless refusal.Grams (some_grams grams)
-    (and_then (next_state l.state call.Uplift) (λ next.
+    (and_then (next_state l.state transition.Uplift) (λ next.
     unless refusal.Overweight (nat_le (mass_of l + in_mg grams) (in_mg a.masses.maximum)) (silent (changed l next (l.fuel + in_mg grams) l.seconds))))
 
 abbrev pub jettison_outcome : Account → (grams : ℕ) → Outcome (Unit {0})
 jettison_outcome l grams =
     unless refusal.Grams (some_grams grams)
-    (and_then (next_state l.state call.Jettison) (λ next.
+    (and_then (next_state l.state transition.Jettison) (λ next.
     unless refusal.FuelShort (nat_le (in_mg grams) l.fuel) (silent (changed l next (l.fuel - in_mg grams) l.seconds))))
 
 abbrev pub touchdown_outcome : Account → Outcome (Unit {0})
-touchdown_outcome l = and_then (next_state l.state call.Touchdown) (λ next. silent (changed l next l.fuel l.seconds))
+touchdown_outcome l = and_then (next_state l.state transition.Touchdown) (λ next. silent (changed l next l.fuel l.seconds))
 
 abbrev pub outcome : Setting → Account → (c : Call) → Outcome (Answer c)
 outcome w l (Leg n x) = leg_outcome w l n x
 outcome w l (Uplift grams) = uplift_outcome w.aircraft l grams
 outcome w l (Jettison grams) = jettison_outcome l grams
 outcome w l Touchdown = touchdown_outcome l
-
--- What a status, or a leg's answer and the status that it leaves, stands for.
-
-abbrev pub status_begun : Result Status Refusal → Result Account Refusal
-status_begun (Ok s) = Ok (account_of s)
-status_begun (Err e) = Err e
-
-abbrev pub status_done : Result Status Refusal → Outcome (Unit {0})
-status_done (Ok s) = silent (account_of s)
-status_done (Err e) = Err e
-
-abbrev pub step_done : Result Step Refusal → Outcome Flown
-step_done (Ok s) = Ok (record { answer = s.flown; left = account_of s.left })
-step_done (Err e) = Err e

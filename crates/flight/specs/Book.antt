@@ -2,7 +2,7 @@
 --   Entry told                  what the book is told of a call
 --   book_mass book_fuel         its mass and fuel in mg, with no rounding anywhere
 --   tolerance                   how far a flight may come from the book: a sum over accepted legs of a rate by leg
-use Rattle.std.specs.Prelude.{ℕ, ◌+◌, ◌*◌, Bool, true, false, cond, List, [], ◌∷◌, Ok, Err, Result}
+use Rattle.std.specs.Prelude.{ℕ, ◌+◌, ◌*◌, Bool, cond, is_ok, List, [], ◌∷◌, Ok, Err, Result}
 use Rattle.refusal.specs.declared.refusal.Refusal.{Refusal}
 use Rattle.exact.specs.Rational.{ℚ, nat, ◌+ℚ◌, ◌-ℚ◌}
 use Rattle.leg.specs.declared.phase.Phase.{Phase}
@@ -19,13 +19,9 @@ pub record Entry : Type 0 where
   pub call : Call
   pub accepted : Bool
 
-abbrev pub is_accepted : {A : Type 0} → Result A Refusal → Bool
-is_accepted (Ok a) = true
-is_accepted (Err e) = false
-
 -- all that the book learns of what happened
 abbrev pub told : Event → Entry
-told e = record { call = e.call; accepted = is_accepted e.answer }
+told e = record { call = e.call; accepted = is_ok e.answer }
 
 -- something for the phase that a number names, or else nothing
 abbrev pub by_phase : {A : Type 0} → Result Phase Refusal → A → (Phase → A) → A

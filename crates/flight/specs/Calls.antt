@@ -2,7 +2,7 @@
 --   Setting        the aircraft, the meaning of its engine kind and the air of the day
 --   Answer         what a call answers where it is accepted
 --   Event          a call that was made, with its answer or refusal
-use Rattle.std.specs.Prelude.{ℕ, ◌+◌, ◌*◌, Some, None, Option, Result}
+use Rattle.std.specs.Prelude.{ℕ, ◌+◌, ◌*◌, Option, Result, unwrap_or}
 use Rattle.refusal.specs.declared.refusal.Refusal.{Refusal}
 use Rattle.aircraft.specs.declared.record.Aircraft.{Aircraft}
 use Rattle.air.specs.Day.{Air}
@@ -23,8 +23,7 @@ in_mg grams = grams * 1000
 
 -- the reserve in grams that an absent one counts as
 abbrev pub reserve_or_default : Option ℕ → ℕ
-reserve_or_default (Some grams) = grams
-reserve_or_default None = 0
+reserve_or_default reserve = unwrap_or reserve 0
 
 -- what a start fixes, in mg
 abbrev pub starting_mass : Start → ℕ

@@ -1,7 +1,7 @@
 -- What each call says of the flight before and after it, and the runs that such calls make.
 --   Started Made     the contracts of a start and of every later call
 --   Run              a start and the calls after it, each made on the flight that the one before left
-use Rattle.std.specs.Prelude.{◌≡◌, List, [], ◌∷◌, IfOk, Ok, Err, Result}
+use Rattle.std.specs.Prelude.{◌≡◌, List, [], ◌∷◌, IfOk, Ok, Result}
 use Rattle.refusal.specs.declared.refusal.Refusal.{Refusal}
 use Rattle.aircraft.specs.declared.record.Aircraft.{Aircraft}
 use Rattle.air.specs.Day.{Air}
@@ -10,15 +10,12 @@ use Rattle.flight.specs.declared.flight.Flight.{Flight}
 use Rattle.flight.specs.declared.start.Start.{Start}
 use Rattle.flight.specs.declared.call.Call.{Call}
 use Rattle.flight.specs.Calls.{Setting, Answer, Event}
-use Rattle.flight.specs.Accounts.{Account, account_of, start_outcome, Outcome, outcome, answered, left_by}
+use Rattle.flight.specs.Account.{Account}
+use Rattle.flight.specs.Accounts.{start_outcome, begun, Outcome, outcome, answered, left_by}
 
 module _ {K D : Type 0} where
   abbrev pub account : Flight K D → Account
-  account f = account_of f.status
-
-  abbrev pub begun : Result (Flight K D) Refusal → Result Account Refusal
-  begun (Ok f) = Ok (account f)
-  begun (Err e) = Err e
+  account f = f.status
 
   -- a flight of this aircraft, kind and day
   pub record FlightOf (aircraft : Aircraft) (kind : K) (day : D) (f : Flight K D) : Type 0 where
@@ -27,7 +24,7 @@ module _ {K D : Type 0} where
     pub day_is : f.day ≡ day
 
   pub record Started (aircraft : Aircraft) (kind : K) (day : D) (s : Start) (r : Result (Flight K D) Refusal) : Type 0 where
-    pub answer : begun r ≡ start_outcome aircraft s
+    pub answer : begun account r ≡ start_outcome aircraft s
     pub same : IfOk r (FlightOf aircraft kind day)
 
 module _ {K D : Type 0} (engine : K → KindMeaning) (air : D → Air) where

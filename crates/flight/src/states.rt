@@ -1,4 +1,4 @@
-// What a call may do in each state.
+// What a flight's state takes, and the state that it leaves.
 ghost use Rattle.std.specs.Prelude.{◌≡◌};
 ghost use Rattle.flight.specs.States.{next_state};
 
@@ -6,24 +6,27 @@ use crate::status::State;
 use leg::phase::Phase;
 use refusal::refusal::Refusal;
 
-#[derive(Clone, Copy)]
-pub(crate) enum Call {
+// What a call asks of the state.
+#[derive(Clone, Copy, PartialEq, Eq, Debug)]
+pub(crate) enum Transition {
     Leg(Phase),
     Uplift,
     Jettison,
     Touchdown,
 }
 
-// The state that an accepted call leaves; refused where the state does not take the call.
-pub(crate) fn next(state: State, call: Call) -> Result<State, Refusal>
-    ensures { result ≡ next_state state call }
-{
-    match (state, call) {
-        (State::Stand, Call::Leg(Phase::Climb)) => Ok(State::Airborne),
-        (State::Stand, Call::Uplift) => Ok(State::Stand),
-        (State::Airborne, Call::Leg(_)) | (State::Airborne, Call::Jettison) => Ok(State::Airborne),
-        (State::Airborne, Call::Touchdown) => Ok(State::Stand),
-        (State::Stand, Call::Leg(_) | Call::Jettison | Call::Touchdown)
-        | (State::Airborne, Call::Uplift) => Err(Refusal::State),
+impl State {
+    // Refused where this state does not take the transition.
+    pub(crate) fn after(self, transition: Transition) -> Result<State, Refusal>
+        ensures { result ≡ next_state self transition }
+    {
+        match (self, transition) {
+            (State::Stand, Transition::Leg(Phase::Climb)) => Ok(State::Airborne),
+            (State::Stand, Transition::Uplift) => Ok(State::Stand),
+            (State::Airborne, Transition::Leg(_) | Transition::Jettison) => Ok(State::Airborne),
+            (State::Airborne, Transition::Touchdown) => Ok(State::Stand),
+            (State::Stand, Transition::Leg(_) | Transition::Jettison | Transition::Touchdown)
+            | (State::Airborne, Transition::Uplift) => Err(Refusal::State),
+        }
     }
 }

@@ -1,149 +1,125 @@
-// What each call makes of a flight's status.
-ghost use Rattle.std.specs.Prelude.{◌≡◌, ◌+◌, ◌≤◌, if◌then◌else◌, Ok, Err};
-ghost use Rattle.refusal.specs.declared.refusal.Refusal.TheVariants.{Grams};
-ghost use Rattle.leg.specs.Requests.{figures_of};
-ghost use Rattle.flight.specs.Calls.{in_mg, reserve_or_default};
-ghost use Rattle.flight.specs.Accounts.{account_of, changed, start_outcome, leg_taken, leg_fuelled, uplift_outcome, jettison_outcome, touchdown_outcome, some_grams, status_begun, status_done, step_done};
+// What each call makes of a flight's status. A refusal leaves it as it was.
+ghost use Rattle.std.specs.Prelude.{◌≡◌, ◌-◌, nat_le, Ok};
+ghost use Rattle.refusal.specs.declared.refusal.Refusal.TheVariants as refusal;
+ghost use Rattle.flight.specs.Calls.{in_mg};
+ghost use Rattle.flight.specs.Accounts.{mass_of, reading_of, unless, most_grams, some_grams, start_outcome, answered, left_by, uplift_outcome, jettison_outcome, touchdown_outcome};
 
+use crate::reading::Reading;
 use crate::start::Start;
-use crate::states::{Call, next};
-use crate::status::{State, Status, Step};
-use air::day::Day;
+use crate::states::Transition;
+use crate::status::{State, Status};
 use aircraft::record::Aircraft;
-use engine::kind::Kind;
-use leg::flown::Flown;
 use leg::mass::Mass;
-use leg::phase::Phase;
-use leg::request::Request;
-use leg::setting::Setting;
 use refusal::refusal::Refusal;
 
-impl Status {
-    // Another state, fuel and seconds; zero-fuel mass and reserve stay.
-    fn with(self, state: State, fuel: u64, seconds: u64) -> Status
-        requires heavy { self.zero_fuel + fuel ≤ 900000000000 }
-        requires flown { seconds ≤ 1000000 }
-        ensures { account_of result ≡ changed (account_of self) state fuel seconds }
-    {
-        Status {
-            state,
-            zero_fuel: self.zero_fuel,
-            fuel,
-            reserve: self.reserve,
-            seconds,
-        }
-    }
-}
-
-// An absent reserve counts as none, in grams.
-fn reserved(reserve: Option<u64>) -> u64
-    ensures { result ≡ reserve_or_default reserve }
+// Grams that a caller names, in mg.
+fn milligrams(grams: u64) -> Result<u64, Refusal>
+    ensures { result ≡ unless refusal.Grams (nat_le grams most_grams) (Ok (in_mg grams)) }
 {
-    match reserve {
-        Some(grams) => grams,
-        None => 0,
-    }
-}
-
-pub(crate) fn begin(aircraft: &Aircraft, start: Start) -> Result<Status, Refusal>
-    ensures { status_begun result ≡ start_outcome aircraft.now start }
-{
-    let Start {
-        zero_fuel,
-        fuel,
-        reserve,
-    } = start;
-    let reserve = reserved(reserve);
-    if zero_fuel > 1000000000 || fuel > 1000000000 || reserve > 1000000000 {
-        return Err(Refusal::Grams);
-    }
-    if zero_fuel < aircraft.masses.minimum {
-        return Err(Refusal::ZeroFuel);
-    }
-    if zero_fuel * 1000 + fuel * 1000 > aircraft.masses.maximum * 1000 {
-        return Err(Refusal::Overweight);
-    }
-    Ok(Status {
-        state: State::Stand,
-        zero_fuel: zero_fuel * 1000,
-        fuel: fuel * 1000,
-        reserve: reserve * 1000,
-        seconds: 0,
-    })
-}
-
-// The status that a leg leaves where there is fuel for it.
-fn fuelled(status: Status, state: State, seconds: u64, flown: Flown) -> Result<Step, Refusal>
-    requires { status.seconds + seconds ≤ 1000000 }
-    ensures { step_done result ≡ leg_fuelled (account_of status) state seconds flown }
-{
-    if flown.burn > status.fuel {
-        return Err(Refusal::FuelShort);
-    }
-    let left = status.with(state, status.fuel - flown.burn, status.seconds + seconds);
-    Ok(Step { flown, left })
-}
-
-// A leg that the state takes.
-pub(crate) fn flown<K: Kind, D: Day>(
-    aircraft: &Aircraft,
-    kind: &K,
-    day: &D,
-    status: Status,
-    phase: Phase,
-    state: State,
-    request: &Request,
-) -> Result<Step, Refusal>
-    ensures { step_done result ≡ leg_taken (record { aircraft = aircraft.entry.now; engine = K.Kind.engine kind.now; air = D.Day.air day.now }) (account_of status) phase state (figures_of request.now) }
-{
-    if status.seconds + request.seconds > 1000000 {
-        return Err(Refusal::FlownSeconds);
-    }
-    let milligrams = status.zero_fuel + status.fuel;
-    let setting = Setting {
-        aircraft,
-        kind,
-        day,
-    };
-    let flown = setting.fly(phase, request, Mass { milligrams })?;
-    fuelled(status, state, request.seconds, flown)
-}
-
-// Grams put in or thrown out, in mg.
-fn weighed(grams: u64) -> Result<u64, Refusal>
-    ensures { result ≡ (if some_grams grams then Ok (in_mg grams) else Err Grams) }
-{
-    if grams < 1 || grams > 1000000000 {
+    if grams > 1000000000 {
         return Err(Refusal::Grams);
     }
     Ok(grams * 1000)
 }
 
-pub(crate) fn uplifted(aircraft: &Aircraft, status: Status, grams: u64) -> Result<Status, Refusal>
-    ensures { status_done result ≡ uplift_outcome aircraft.now (account_of status) grams }
+// Grams put in or thrown out, in mg: no less than a gram.
+fn some_milligrams(grams: u64) -> Result<u64, Refusal>
+    ensures { result ≡ unless refusal.Grams (some_grams grams) (Ok (in_mg grams)) }
 {
-    let added = weighed(grams)?;
-    let state = next(status.state, Call::Uplift)?;
-    if status.zero_fuel + status.fuel + added > aircraft.masses.maximum * 1000 {
+    if grams < 1 {
+        return Err(Refusal::Grams);
+    }
+    milligrams(grams)
+}
+
+// Refused where a mass, in mg, is above what the aircraft may have.
+fn within_maximum(aircraft: &Aircraft, milligrams: u64) -> Result<(), Refusal>
+    ensures { result ≡ unless refusal.Overweight (nat_le milligrams (in_mg aircraft.now.masses.maximum)) (Ok tt) }
+{
+    if milligrams > aircraft.masses.maximum * 1000 {
         return Err(Refusal::Overweight);
     }
-    Ok(status.with(state, status.fuel + added, status.seconds))
+    Ok(())
 }
 
-pub(crate) fn jettisoned(status: Status, grams: u64) -> Result<Status, Refusal>
-    ensures { status_done result ≡ jettison_outcome (account_of status) grams }
-{
-    let thrown = weighed(grams)?;
-    let state = next(status.state, Call::Jettison)?;
-    if thrown > status.fuel {
-        return Err(Refusal::FuelShort);
+impl Status {
+    pub(crate) fn begin(aircraft: &Aircraft, start: Start) -> Result<Status, Refusal>
+        ensures { result ≡ start_outcome aircraft.now start }
+    {
+        let zero_fuel = milligrams(start.zero_fuel)?;
+        let fuel = milligrams(start.fuel)?;
+        let reserve = milligrams(start.reserve.unwrap_or(0))?;
+        if start.zero_fuel < aircraft.masses.minimum {
+            return Err(Refusal::ZeroFuel);
+        }
+        within_maximum(aircraft, zero_fuel + fuel)?;
+        Ok(Status {
+            state: State::Stand,
+            zero_fuel,
+            fuel,
+            reserve,
+            seconds: 0,
+        })
     }
-    Ok(status.with(state, status.fuel - thrown, status.seconds))
-}
 
-pub(crate) fn landed(status: Status) -> Result<Status, Refusal>
-    ensures { status_done result ≡ touchdown_outcome (account_of status) }
-{
-    let state = next(status.state, Call::Touchdown)?;
-    Ok(status.with(state, status.fuel, status.seconds))
+    pub(crate) fn mass(&self) -> Mass
+        ensures { result.milligrams ≡ mass_of self.now }
+    {
+        Mass {
+            milligrams: self.zero_fuel + self.fuel,
+        }
+    }
+
+    // The mark is up exactly if the fuel is below the reserve.
+    pub(crate) fn reading(&self) -> Reading
+        ensures { result ≡ reading_of self.now }
+    {
+        Reading {
+            mass: self.mass().milligrams,
+            fuel: self.fuel,
+            minimum: self.fuel < self.reserve,
+        }
+    }
+
+    // The fuel that is left once some is burned or thrown out, in mg; refused where there is less.
+    pub(crate) fn fuel_after(&self, milligrams: u64) -> Result<u64, Refusal>
+        ensures { result ≡ unless refusal.FuelShort (nat_le milligrams self.now.fuel) (Ok (self.now.fuel - milligrams)) }
+    {
+        if milligrams > self.fuel {
+            return Err(Refusal::FuelShort);
+        }
+        Ok(self.fuel - milligrams)
+    }
+
+    pub(crate) fn uplift(&mut self, aircraft: &Aircraft, grams: u64) -> Result<(), Refusal>
+        ensures answer { result ≡ answered (uplift_outcome aircraft.now self.old grams) }
+        ensures left { self.new ≡ left_by self.old (uplift_outcome aircraft.now self.old grams) }
+    {
+        let added = some_milligrams(grams)?;
+        let state = self.state.after(Transition::Uplift)?;
+        within_maximum(aircraft, self.mass().milligrams + added)?;
+        self.state = state;
+        self.fuel += added;
+        Ok(())
+    }
+
+    pub(crate) fn jettison(&mut self, grams: u64) -> Result<(), Refusal>
+        ensures answer { result ≡ answered (jettison_outcome self.old grams) }
+        ensures left { self.new ≡ left_by self.old (jettison_outcome self.old grams) }
+    {
+        let thrown = some_milligrams(grams)?;
+        let state = self.state.after(Transition::Jettison)?;
+        let fuel = self.fuel_after(thrown)?;
+        self.state = state;
+        self.fuel = fuel;
+        Ok(())
+    }
+
+    pub(crate) fn touchdown(&mut self) -> Result<(), Refusal>
+        ensures answer { result ≡ answered (touchdown_outcome self.old) }
+        ensures left { self.new ≡ left_by self.old (touchdown_outcome self.old) }
+    {
+        self.state = self.state.after(Transition::Touchdown)?;
+        Ok(())
+    }
 }

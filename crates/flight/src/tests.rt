@@ -4,82 +4,13 @@ use crate::hop::fly_hop;
 use crate::reading::Reading;
 use crate::start::Start;
 use air::bench::Bench;
-use aircraft::record::{
-    Aircraft, Descent, Engine, Fuel, JetCoefficients, Masses, Row, Rows, Temperature,
-};
+use aircraft::record::{Fuel, JetCoefficients};
 use aircraft::words::Configuration;
 use engine::jet::Jet;
 use leg::figures::Figures;
 use leg::flown::Flown;
 use refusal::refusal::Refusal;
 use std::test::Fail;
-
-fn sample_jet() -> JetCoefficients {
-    JetCoefficients {
-        ctc1: 150000000,
-        ctc2: 50000,
-        ctc3: 1000000,
-        fuel: Fuel {
-            cf1: 70000000,
-            cf2: 100000,
-            cf3: 12000000,
-            cf4: 100000,
-        },
-    }
-}
-
-fn sample() -> Aircraft {
-    Aircraft {
-        engine: Engine::Jet(sample_jet()),
-        masses: Masses {
-            reference: 60000000,
-            minimum: 40000000,
-            maximum: 80000000,
-        },
-        ceiling: 40000,
-        wing: 100000,
-        rows: Rows {
-            cruise: Row {
-                stall: 140000,
-                cd0: 2000000,
-                cd2: 4000000,
-            },
-            initial: Row {
-                stall: 117000,
-                cd0: 3305700,
-                cd2: 4536200,
-            },
-            takeoff: Row {
-                stall: 117000,
-                cd0: 3305700,
-                cd2: 4536200,
-            },
-            approach: Row {
-                stall: 115000,
-                cd0: 3803100,
-                cd2: 4493200,
-            },
-            landing: Row {
-                stall: 97000,
-                cd0: 7893500,
-                cd2: 4482200,
-            },
-        },
-        gear: 2250000,
-        temperature: Temperature {
-            ctc4: 100000,
-            ctc5: 500000,
-        },
-        descent: Descent {
-            low: 730000,
-            high: 2060000,
-            level: 8000,
-            approach: 12000000,
-            landing: 36000000,
-        },
-        cruise: 100000,
-    }
-}
 
 fn figures(altitude: u64, speed: u64, calibrated: u64, seconds: u64) -> Figures {
     Figures {
@@ -133,7 +64,7 @@ fn thirsty() -> Jet {
 
 fn with_kind(kind: Jet, fuel: u64) -> Result<Flight<Jet, Bench>, Refusal> {
     Flight::start(
-        sample(),
+        sample_jet::aircraft(),
         kind,
         Bench::new(45000, 0)?,
         load(50000000, fuel, None),
@@ -143,7 +74,7 @@ fn with_kind(kind: Jet, fuel: u64) -> Result<Flight<Jet, Bench>, Refusal> {
 fn on_stand() -> Result<Flight<Jet, Bench>, Refusal> {
     with_kind(
         Jet {
-            coefficients: sample_jet(),
+            coefficients: sample_jet::coefficients(),
         },
         10000000,
     )
@@ -155,17 +86,14 @@ fn in_the_air() -> Result<Flight<Jet, Bench>, Refusal> {
     Ok(flight)
 }
 
-// The number of a refusal, or 0.
-fn number<T: Drop>(answer: Result<T, Refusal>) -> u8 {
-    match answer {
-        Ok(_) => 0,
-        Err(refusal) => u8::from(refusal),
-    }
+// The number of a refusal.
+fn number<T: Drop>(answer: Result<T, Refusal>) -> Option<u8> {
+    answer.err().map(u8::from)
 }
 
-fn starting(zero_fuel: u64, fuel: u64, reserve: Option<u64>) -> Result<u8, Refusal> {
+fn starting(zero_fuel: u64, fuel: u64, reserve: Option<u64>) -> Result<Option<u8>, Refusal> {
     Ok(number(Flight::start(
-        sample(),
+        sample_jet::aircraft(),
         sipping(),
         Bench::new(45000, 0)?,
         load(zero_fuel, fuel, reserve),
@@ -175,7 +103,7 @@ fn starting(zero_fuel: u64, fuel: u64, reserve: Option<u64>) -> Result<u8, Refus
 // Whether the mark is up at the start, with 10 t of fuel.
 fn marked(reserve: Option<u64>) -> Result<bool, Refusal> {
     let flight = Flight::start(
-        sample(),
+        sample_jet::aircraft(),
         sipping(),
         Bench::new(45000, 0)?,
         load(50000000, 10000000, reserve),
@@ -234,7 +162,10 @@ fn sample_legs(rt: HostRuntime) -> Result<(), Fail> {
             minimum: false,
         }
     );
-    assert_eq!(rt; number(flight.leg(2, figures(30000, 4500, 280, 61))), 20);
+    assert_eq!(rt;
+        number(flight.leg(2, figures(30000, 4500, 280, 61))),
+        Some(20)
+    );
     flight.jettison(100000)?;
     assert_eq!(rt;
         flight.reading(),
@@ -250,18 +181,18 @@ fn sample_legs(rt: HostRuntime) -> Result<(), Fail> {
 #[test]
 fn sample_hop(rt: HostRuntime) -> Result<(), Fail> {
     let hop = fly_hop(
-        sample(),
+        sample_jet::aircraft(),
         Jet {
-            coefficients: sample_jet(),
+            coefficients: sample_jet::coefficients(),
         },
         Bench::new(45000, 0)?,
         50000000,
         10000000,
         figures(30000, 4500, 280, 60),
     )?;
-    assert_eq!(rt; number(hop.uplifted), 0);
-    assert_eq!(rt; number(hop.flown), 0);
-    assert_eq!(rt; number(hop.landed), 0);
+    assert_eq!(rt; number(hop.uplifted), None);
+    assert_eq!(rt; number(hop.flown), None);
+    assert_eq!(rt; number(hop.landed), None);
     assert_eq!(rt;
         hop.reading,
         Reading {
@@ -276,10 +207,16 @@ fn sample_hop(rt: HostRuntime) -> Result<(), Fail> {
 #[test]
 fn calls_on_stand(rt: HostRuntime) -> Result<(), Fail> {
     let mut flight = on_stand()?;
-    assert_eq!(rt; number(flight.leg(2, figures(30000, 4500, 280, 60))), 16);
-    assert_eq!(rt; number(flight.leg(3, figures(30000, 4500, 280, 60))), 16);
-    assert_eq!(rt; number(flight.jettison(1)), 16);
-    assert_eq!(rt; number(flight.touchdown()), 16);
+    assert_eq!(rt;
+        number(flight.leg(2, figures(30000, 4500, 280, 60))),
+        Some(16)
+    );
+    assert_eq!(rt;
+        number(flight.leg(3, figures(30000, 4500, 280, 60))),
+        Some(16)
+    );
+    assert_eq!(rt; number(flight.jettison(1)), Some(16));
+    assert_eq!(rt; number(flight.touchdown()), Some(16));
     assert_eq!(rt;
         flight.reading(),
         Reading {
@@ -288,7 +225,7 @@ fn calls_on_stand(rt: HostRuntime) -> Result<(), Fail> {
             minimum: false,
         }
     );
-    assert_eq!(rt; number(flight.uplift(1)), 0);
+    assert_eq!(rt; number(flight.uplift(1)), None);
     assert_eq!(rt;
         flight.reading(),
         Reading {
@@ -297,15 +234,15 @@ fn calls_on_stand(rt: HostRuntime) -> Result<(), Fail> {
             minimum: false,
         }
     );
-    assert_eq!(rt; number(flight.leg(1, figures(30000, 4500, 280, 60))), 0);
-    assert_eq!(rt; number(flight.leg(2, figures(30000, 4500, 280, 60))), 0);
+    assert_eq!(rt; number(flight.leg(1, figures(30000, 4500, 280, 60))), None);
+    assert_eq!(rt; number(flight.leg(2, figures(30000, 4500, 280, 60))), None);
     Ok(())
 }
 
 #[test]
 fn calls_in_the_air(rt: HostRuntime) -> Result<(), Fail> {
     let mut flight = in_the_air()?;
-    assert_eq!(rt; number(flight.uplift(1)), 16);
+    assert_eq!(rt; number(flight.uplift(1)), Some(16));
     assert_eq!(rt;
         flight.reading(),
         Reading {
@@ -314,24 +251,24 @@ fn calls_in_the_air(rt: HostRuntime) -> Result<(), Fail> {
             minimum: false,
         }
     );
-    assert_eq!(rt; number(flight.leg(1, figures(30000, 4500, 280, 60))), 0);
-    assert_eq!(rt; number(flight.leg(2, figures(30000, 4500, 280, 60))), 0);
-    assert_eq!(rt; number(flight.leg(3, figures(30000, 4500, 280, 60))), 0);
-    assert_eq!(rt; number(flight.jettison(1)), 0);
-    assert_eq!(rt; number(flight.touchdown()), 0);
-    assert_eq!(rt; number(flight.touchdown()), 16);
-    assert_eq!(rt; number(flight.uplift(1)), 0);
+    assert_eq!(rt; number(flight.leg(1, figures(30000, 4500, 280, 60))), None);
+    assert_eq!(rt; number(flight.leg(2, figures(30000, 4500, 280, 60))), None);
+    assert_eq!(rt; number(flight.leg(3, figures(30000, 4500, 280, 60))), None);
+    assert_eq!(rt; number(flight.jettison(1)), None);
+    assert_eq!(rt; number(flight.touchdown()), None);
+    assert_eq!(rt; number(flight.touchdown()), Some(16));
+    assert_eq!(rt; number(flight.uplift(1)), None);
     Ok(())
 }
 
 #[test]
 fn refused_starts(rt: HostRuntime) -> Result<(), Fail> {
-    assert_eq!(rt; starting(1000000001, 0, None)?, 13);
-    assert_eq!(rt; starting(50000000, 1000000001, None)?, 13);
-    assert_eq!(rt; starting(39999999, 0, Some(1000000001))?, 13);
-    assert_eq!(rt; starting(39999999, 1000000000, Some(1000000000))?, 14);
-    assert_eq!(rt; starting(50000000, 30000001, None)?, 24);
-    assert_eq!(rt; starting(40000000, 40000000, Some(1000000000))?, 0);
+    assert_eq!(rt; starting(1000000001, 0, None)?, Some(13));
+    assert_eq!(rt; starting(50000000, 1000000001, None)?, Some(13));
+    assert_eq!(rt; starting(39999999, 0, Some(1000000001))?, Some(13));
+    assert_eq!(rt; starting(39999999, 1000000000, Some(1000000000))?, Some(14));
+    assert_eq!(rt; starting(50000000, 30000001, None)?, Some(24));
+    assert_eq!(rt; starting(40000000, 40000000, Some(1000000000))?, None);
     Ok(())
 }
 
@@ -346,25 +283,25 @@ fn marks(rt: HostRuntime) -> Result<(), Fail> {
 #[test]
 fn refused_uplifts(rt: HostRuntime) -> Result<(), Fail> {
     let mut flight = on_stand()?;
-    assert_eq!(rt; number(flight.uplift(0)), 13);
-    assert_eq!(rt; number(flight.uplift(1000000001)), 13);
-    assert_eq!(rt; number(flight.uplift(20000001)), 24);
-    assert_eq!(rt; number(flight.uplift(20000000)), 0);
+    assert_eq!(rt; number(flight.uplift(0)), Some(13));
+    assert_eq!(rt; number(flight.uplift(1000000001)), Some(13));
+    assert_eq!(rt; number(flight.uplift(20000001)), Some(24));
+    assert_eq!(rt; number(flight.uplift(20000000)), None);
     let mut airborne = in_the_air()?;
-    assert_eq!(rt; number(airborne.uplift(0)), 13);
-    assert_eq!(rt; number(airborne.uplift(1000000000)), 16);
+    assert_eq!(rt; number(airborne.uplift(0)), Some(13));
+    assert_eq!(rt; number(airborne.uplift(1000000000)), Some(16));
     Ok(())
 }
 
 #[test]
 fn refused_jettisons(rt: HostRuntime) -> Result<(), Fail> {
     let mut flight = on_stand()?;
-    assert_eq!(rt; number(flight.jettison(0)), 13);
-    assert_eq!(rt; number(flight.jettison(1000000000)), 16);
+    assert_eq!(rt; number(flight.jettison(0)), Some(13));
+    assert_eq!(rt; number(flight.jettison(1000000000)), Some(16));
     let mut airborne = in_the_air()?;
-    assert_eq!(rt; number(airborne.jettison(1000000001)), 13);
-    assert_eq!(rt; number(airborne.jettison(9925398)), 25);
-    assert_eq!(rt; number(airborne.jettison(9925397)), 0);
+    assert_eq!(rt; number(airborne.jettison(1000000001)), Some(13));
+    assert_eq!(rt; number(airborne.jettison(9925398)), Some(25));
+    assert_eq!(rt; number(airborne.jettison(9925397)), None);
     assert_eq!(rt;
         airborne.reading(),
         Reading {
@@ -379,50 +316,71 @@ fn refused_jettisons(rt: HostRuntime) -> Result<(), Fail> {
 #[test]
 fn refused_legs(rt: HostRuntime) -> Result<(), Fail> {
     let mut flight = on_stand()?;
-    assert_eq!(rt; number(flight.leg(4, figures(40001, 299, 19, 0))), 15);
-    assert_eq!(rt; number(flight.leg(2, figures(40001, 299, 19, 0))), 16);
-    assert_eq!(rt; number(flight.leg(1, figures(40001, 299, 19, 0))), 17);
-    assert_eq!(rt; number(flight.leg(1, figures(40000, 299, 19, 0))), 18);
-    assert_eq!(rt; number(flight.leg(1, figures(40000, 300, 19, 0))), 19);
-    assert_eq!(rt; number(flight.leg(1, figures(40000, 300, 20, 0))), 20);
-    assert_eq!(rt; number(flight.leg(1, figures(40000, 300, 20, 1))), 22);
+    assert_eq!(rt; number(flight.leg(4, figures(40001, 299, 19, 0))), Some(15));
+    assert_eq!(rt; number(flight.leg(2, figures(40001, 299, 19, 0))), Some(16));
+    assert_eq!(rt; number(flight.leg(1, figures(40001, 299, 19, 0))), Some(17));
+    assert_eq!(rt; number(flight.leg(1, figures(40000, 299, 19, 0))), Some(18));
+    assert_eq!(rt; number(flight.leg(1, figures(40000, 300, 19, 0))), Some(19));
+    assert_eq!(rt; number(flight.leg(1, figures(40000, 300, 20, 0))), Some(20));
+    assert_eq!(rt; number(flight.leg(1, figures(40000, 300, 20, 1))), Some(22));
     let mut refusing = with_kind(thirsty(), 1)?;
-    assert_eq!(rt; number(refusing.leg(1, figures(30000, 300, 280, 60))), 22);
-    assert_eq!(rt; number(refusing.leg(1, figures(30000, 4500, 280, 60))), 23);
+    assert_eq!(rt;
+        number(refusing.leg(1, figures(30000, 300, 280, 60))),
+        Some(22)
+    );
+    assert_eq!(rt;
+        number(refusing.leg(1, figures(30000, 4500, 280, 60))),
+        Some(23)
+    );
     let mut short = with_kind(
         Jet {
-            coefficients: sample_jet(),
+            coefficients: sample_jet::coefficients(),
         },
         1,
     )?;
-    assert_eq!(rt; number(short.leg(1, figures(30000, 4500, 280, 60))), 25);
-    assert_eq!(rt; number(short.leg(2, figures(30000, 4500, 280, 60))), 16);
+    assert_eq!(rt;
+        number(short.leg(1, figures(30000, 4500, 280, 60))),
+        Some(25)
+    );
+    assert_eq!(rt;
+        number(short.leg(2, figures(30000, 4500, 280, 60))),
+        Some(16)
+    );
     Ok(())
 }
 
-// Descents of a minute; the number of the first refusal, or 0.
-fn descend(flight: &mut Flight<Jet, Bench>, minutes: u64) -> u8 {
+// Descents of a minute, up to the first that is refused.
+fn descend(flight: &mut Flight<Jet, Bench>, minutes: u64) -> Result<(), Refusal> {
     for _ in 0..minutes {
-        let refusal = number(flight.leg(3, figures(30000, 4500, 280, 60)));
-        if refusal != 0 {
-            return refusal;
-        }
+        let _ = flight.leg(3, figures(30000, 4500, 280, 60))?;
     }
-    0
+    Ok(())
 }
 
 #[test]
 fn a_million_seconds(rt: HostRuntime) -> Result<(), Fail> {
     let mut flight = with_kind(sipping(), 10000000)?;
-    assert_eq!(rt; number(flight.leg(1, figures(30000, 4500, 280, 60))), 0);
+    assert_eq!(rt; number(flight.leg(1, figures(30000, 4500, 280, 60))), None);
     let climbed = flight.reading().mass;
-    assert_eq!(rt; descend(&mut flight, 16665), 0);
-    assert_eq!(rt; number(flight.leg(3, figures(30000, 4500, 280, 41))), 21);
-    assert_eq!(rt; number(flight.touchdown()), 0);
-    assert_eq!(rt; number(flight.leg(1, figures(30000, 4500, 280, 41))), 21);
-    assert_eq!(rt; number(flight.leg(1, figures(30000, 300, 280, 41))), 21);
-    assert_eq!(rt; number(flight.leg(1, figures(30000, 4500, 280, 40))), 0);
-    assert_eq!(rt; number(flight.leg(3, figures(30000, 4500, 280, 1))), 21);
+    assert_eq!(rt; number(descend(&mut flight, 16665)), None);
+    assert_eq!(rt;
+        number(flight.leg(3, figures(30000, 4500, 280, 41))),
+        Some(21)
+    );
+    assert_eq!(rt; number(flight.touchdown()), None);
+    assert_eq!(rt;
+        number(flight.leg(1, figures(30000, 4500, 280, 41))),
+        Some(21)
+    );
+    assert_eq!(rt;
+        number(flight.leg(1, figures(30000, 300, 280, 41))),
+        Some(21)
+    );
+    assert_eq!(rt; number(flight.leg(1, figures(30000, 4500, 280, 40))), None);
+    assert_eq!(rt;
+        number(flight.leg(3, figures(30000, 4500, 280, 1))),
+        Some(21)
+    );
     assert!(rt; climbed > flight.reading().mass);
     Ok(())
 }

@@ -4,3 +4,4 @@
 pub mod fault;
 pub mod refusal;
 pub mod show;
+pub mod within;

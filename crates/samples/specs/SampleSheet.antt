@@ -15,7 +15,8 @@ use Rattle.flight.specs.declared.status.State.TheVariants.{Stand, Airborne}
 use Rattle.flight.specs.declared.start.Start.{Start}
 use Rattle.flight.specs.declared.call.Call.TheVariants.{Leg, Jettison}
 use Rattle.flight.specs.Calls.{Setting}
-use Rattle.flight.specs.Accounts.{Account, reading_of, start_outcome, outcome, silent}
+use Rattle.flight.specs.Account.{Account}
+use Rattle.flight.specs.Accounts.{reading_of, start_outcome, outcome, silent}
 
 -- the bench day of 0.45 kg/m³ at standard temperature
 pub record SampleBench (b : Bench) : Type 0 where
