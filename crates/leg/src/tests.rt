@@ -138,7 +138,7 @@ fn largest_leg(
     setting.fly(phase, &request, mass)
 }
 
-// The number by which a leg of the sample aircraft is refused, or 0.
+// The number by which a leg of the sample aircraft is refused, or 0, as the worked figures have it.
 fn refusal_of(
     kind: &Jet,
     phase: Phase,
@@ -156,21 +156,17 @@ fn refusal_of(
         kind,
         day: &day,
     };
-    match setting.fly(phase, &request, Mass { milligrams }) {
-        Ok(_) => Ok(0),
-        Err(refusal) => Ok(u8::from(refusal)),
-    }
+    let flown = setting.fly(phase, &request, Mass { milligrams });
+    Ok(flown.map_or_else(u8::from, |_| 0))
 }
 
-// The number by which the figures of a leg are refused, or 0.
+// The number by which the figures of a leg are refused, or 0, as the worked figures have it.
 fn figures(altitude: u64, speed: u64, calibrated: u64, seconds: u64) -> u8 {
-    match Request::new(
+    let request = Request::new(
         &sample_jet::aircraft(),
         asked(altitude, speed, calibrated, seconds),
-    ) {
-        Ok(_) => 0,
-        Err(refusal) => u8::from(refusal),
-    }
+    );
+    request.map_or_else(u8::from, |_| 0)
 }
 
 #[test]

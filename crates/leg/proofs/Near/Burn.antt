@@ -45,12 +45,7 @@ module _ (a : Aircraft) (air : Air) (f : Figures) where
   unfolding exact_available
   leg_available_near k laws range =
       available_near _ _ (temperature_near a.temperature (deviation_at air f)) (held_high (int_div_euclid (warming a.temperature (deviation_at air f)) (pos 1000))) _ _
-      (record {
-        near = laws.thrust_near f.altitude f.speed range.low range.slowest range.fastest;
-        high = laws.thrust_high f.altitude f.speed range.low range.slowest range.fastest;
-        exact_low = laws.exact_thrust_low f.altitude f.speed range.low range.slowest range.fastest;
-        exact_high = laws.exact_thrust_high f.altitude f.speed range.low range.slowest range.fastest;
-      })
+      (search rules)
       (exact_temperature_low a.temperature (deviation_at air f))
       (exact_temperature_high a.temperature (deviation_at air f))
 

@@ -2,7 +2,7 @@
 use Rattle.std.proofs.Common.{ℕ, ◌*◌, ◌^◌, ◌<◌, ◌≤◌, [], ◌∷◌, ⊎_elim, arith}
 use Rattle.exact.specs.Rational.{ℚ, nat, ◌+ℚ◌, ◌-ℚ◌, ◌*ℚ◌, ◌÷ℚ◌, minℚ, ◌≤ℚ◌, ◌<ℚ◌, ◌≈◌}
 use Rattle.exact.proofs.Laws.{≤_trans, ≈→≥, <→≤, nat-≥0, nat-≤, nat-<, +-*, *_assoc, *-−, *-≥0, *_mono, *_mono_left, *_mono₂, difference_of_squares, ÷-*, ÷-≤, ÷-≥0, ÷_mono, min_left, min_right, min_either}
-use Rattle.exact.proofs.Linear.{linear, at, con, ◌⊕◌, ◌⊖◌, ◌⊛◌, ◌≼◌, ◌≋◌}
+use Rattle.exact.proofs.Linear.{linear, at, ◌⊕◌, ◌⊖◌, ◌⊛◌, ◌≼◌, ◌≋◌}
 use Rattle.leg.specs.Exact.{exact_weight, exact_parasitic, exact_induced, exact_drag_of}
 use Rattle.leg.specs.Nearness.{DragBounds}
 use Rattle.leg.proofs.Near.Drag.{exact_loading}
@@ -56,6 +56,9 @@ exact_weight_gains x x' h =
     linear (x ∷ x' ∷ exact_weight x ∷ exact_weight x' ∷ []) (at 0 ≼ at 1 ∷ (10 ^ 9) ⊛ at 2 ≋ 980665 ⊛ at 0 ∷ (10 ^ 9) ⊛ at 3 ≋ 980665 ⊛ at 1 ∷ []) (1000 ⊛ (at 3 ⊖ at 2) ≼ at 1 ⊖ at 0) (λ d u w p h. omega arith)
     (h, (exact_weight_is x, (exact_weight_is x', tt)))
 
+sum_low : (x y : ℚ) → nat 0 ≤ℚ x → nat 0 ≤ℚ y → nat 0 ≤ℚ x +ℚ y
+sum_low x y p q = grind arith
+
 -- a share with its factor in front
 share_low : (c b : ℕ) (z : ℚ) → 0 < b → nat 0 ≤ℚ z → nat 0 ≤ℚ nat c *ℚ z ÷ℚ nat b
 share_low c b z p h = grind arith
@@ -68,12 +71,13 @@ module _ (y : ℚ) (force : nat 0 <ℚ y) where
   pub exact_drag_low : (pair : ℕ × ℕ) (w : ℚ) → nat 0 ≤ℚ w → nat 0 ≤ℚ exact_drag_of pair w y
   unfolding exact_drag_of exact_parasitic exact_induced
   exact_drag_low pair w low =
-      linear (exact_parasitic pair.0 y ∷ exact_induced pair.1 w y ∷ []) (con 0 ≼ at 0 ∷ con 0 ≼ at 1 ∷ []) (con 0 ≼ at 0 ⊕ at 1) (λ d u w p h. omega arith)
-      (share_low pair.0 (10 ^ 8) y (omega arith) (<→≤ force), (share_low pair.1 (10 ^ 7) (exact_loading w y) (omega arith) (÷-≥0 force (*-≥0 (nat-≥0 10) (*-≥0 low low))), tt))
+      sum_low _ _
+      (share_low pair.0 (10 ^ 8) y (omega arith) (<→≤ force))
+      (share_low pair.1 (10 ^ 7) (exact_loading w y) (omega arith) (÷-≥0 force (*-≥0 (nat-≥0 10) (*-≥0 low low))))
 
   module _ (w w' : ℚ) (low : nat 0 ≤ℚ w) (h : w ≤ℚ w') where
     loading_rises : exact_loading w y ≤ℚ exact_loading w' y
-    loading_rises = ÷_mono force (*_mono_left (nat 10) (nat-≥0 10) (*_mono₂ low (≤_trans low h) h h))
+    loading_rises = search (arith, ÷_mono, *_mono_left, nat-≥0, *_mono₂, ≤_trans)
 
     loading_gains : w' +ℚ w ≤ℚ y → exact_loading w' y ≤ℚ exact_loading w y +ℚ nat 10 *ℚ (w' -ℚ w)
     loading_gains light =
