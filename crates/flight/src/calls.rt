@@ -8,15 +8,12 @@ ghost use Rattle.flight.specs.Claims.{KeepsToTheBook};
 use crate::flight::Flight;
 use crate::reading::Reading;
 use crate::start::Start;
-use crate::states::Transition;
 use crate::status::Status;
 use air::day::Day;
 use aircraft::record::Aircraft;
 use engine::kind::Kind;
 use leg::figures::Figures;
 use leg::flown::Flown;
-use leg::phase::Phase;
-use leg::request::Request;
 use leg::setting::Setting;
 use refusal::refusal::Refusal;
 
@@ -41,23 +38,12 @@ impl<K: Kind + Drop, D: Day + Drop> Flight<K, D> {
     pub fn leg(&mut self, phase: u64, figures: Figures) -> Result<Flown, Refusal>
         ensures { Made K.engine D.air self.old (Leg phase figures) result self.new }
     {
-        let phase = Phase::try_from(phase)?;
-        let state = self.status.state.after(Transition::Leg(phase))?;
-        let request = Request::new(&self.aircraft, figures)?;
-        if self.status.seconds + request.seconds > 1000000 {
-            return Err(Refusal::FlownSeconds);
-        }
         let setting = Setting {
             aircraft: &self.aircraft,
             kind: &self.kind,
             day: &self.day,
         };
-        let flown = setting.fly(phase, &request, self.status.mass())?;
-        let fuel = self.status.fuel_after(flown.burn)?;
-        self.status.state = state;
-        self.status.fuel = fuel;
-        self.status.seconds += request.seconds;
-        Ok(flown)
+        self.status.leg(&setting, phase, figures)
     }
 
     // Grams of fuel put in, on stand.

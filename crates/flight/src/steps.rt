@@ -2,14 +2,21 @@
 ghost use Rattle.std.specs.Prelude.{◌≡◌, ◌-◌, nat_le, Ok};
 ghost use Rattle.refusal.specs.declared.refusal.Refusal.TheVariants as refusal;
 ghost use Rattle.flight.specs.Calls.{in_mg};
-ghost use Rattle.flight.specs.Accounts.{mass_of, reading_of, unless, most_grams, some_grams, start_outcome, answered, left_by, uplift_outcome, jettison_outcome, touchdown_outcome};
+ghost use Rattle.flight.specs.Accounts.{mass_of, reading_of, unless, most_grams, some_grams, start_outcome, leg_outcome, answered, left_by, uplift_outcome, jettison_outcome, touchdown_outcome};
 
 use crate::reading::Reading;
 use crate::start::Start;
 use crate::states::Transition;
 use crate::status::{State, Status};
+use air::day::Day;
 use aircraft::record::Aircraft;
+use engine::kind::Kind;
+use leg::figures::Figures;
+use leg::flown::Flown;
 use leg::mass::Mass;
+use leg::phase::Phase;
+use leg::request::Request;
+use leg::setting::Setting;
 use refusal::refusal::Refusal;
 
 // Grams that a caller names, in mg.
@@ -89,6 +96,30 @@ impl Status {
             return Err(Refusal::FuelShort);
         }
         Ok(self.fuel - milligrams)
+    }
+
+    // A leg in the phase that a number names.
+    pub(crate) fn leg<K: Kind, D: Day>(
+        &mut self,
+        setting: &Setting<'_, K, D>,
+        phase: u64,
+        figures: Figures,
+    ) -> Result<Flown, Refusal>
+        ensures answer { result ≡ answered (leg_outcome (record { aircraft = setting.now.aircraft.now; engine = K.engine setting.now.kind.now; air = D.air setting.now.day.now }) self.old phase figures) }
+        ensures left { self.new ≡ left_by self.old (leg_outcome (record { aircraft = setting.now.aircraft.now; engine = K.engine setting.now.kind.now; air = D.air setting.now.day.now }) self.old phase figures) }
+    {
+        let phase = Phase::try_from(phase)?;
+        let state = self.state.after(Transition::Leg(phase))?;
+        let request = Request::new(setting.aircraft, figures)?;
+        if self.seconds + request.seconds > 1000000 {
+            return Err(Refusal::FlownSeconds);
+        }
+        let flown = setting.fly(phase, &request, self.mass())?;
+        let fuel = self.fuel_after(flown.burn)?;
+        self.state = state;
+        self.fuel = fuel;
+        self.seconds += request.seconds;
+        Ok(flown)
     }
 
     pub(crate) fn uplift(&mut self, aircraft: &Aircraft, grams: u64) -> Result<(), Refusal>
