@@ -6,7 +6,8 @@ use Rattle.std.proofs.lemmas.List.{drop_more}
 use Rattle.std.proofs.lemmas.Bool.{eq-eqb, ne_eqb, le-leb, lt-leb, leb-true, and_left, and_right, cases_Bool}
 use Rattle.std.proofs.lemmas.Bool.Decides.{nat_tests}
 use Rattle.opf.specs.declared.number.Quantity.{Quantity}
-use Rattle.opf.specs.Numbers.{digit, digits_of, fixed_point, within, natural_from, signed_from, signed_value}
+use Rattle.text.specs.Digits.{digit, digits_of}
+use Rattle.opf.specs.Numbers.{fixed_point, within, natural_from, signed_from, signed_value}
 use Rattle.opf.specs.Counts.{at_most}
 
 pub digits_yes : (n i : ℕ) (s : List ℕ) → i < length s → 48 ≤ get_or s i 0 → get_or s i 0 ≤ 57 → digits_of (n * 10 + (get_or s i 0 - 48)) (drop (i + 1) s) ≡ digits_of n (drop i s)

@@ -7,8 +7,9 @@ use Rattle.refusal.specs.declared.fault.Fault.TheVariants as fault
 use Rattle.aircraft.specs.declared.draft.Draft.{Draft}
 use Rattle.aircraft.specs.Drafts.{empty_draft}
 use Rattle.opf.specs.Faults.{unless, or_else, judge}
-use Rattle.opf.specs.Text.{every, line_of, letters, Line, comment, data_line, last}
-use Rattle.opf.specs.Fields.{is_byte, fields}
+use Rattle.text.specs.Bytes.{every, is_byte}
+use Rattle.opf.specs.Text.{line_of, letters, Line, comment, data_line, last}
+use Rattle.opf.specs.Fields.{fields}
 use Rattle.opf.specs.Numbers.{number_of}
 use Rattle.opf.specs.DataLines.{Fields, natural, integer}
 use Rattle.opf.specs.Files.{by_line, own_fields, is_end, data_lines, line_fault, blank, lines_fault, draft_of}

@@ -5,9 +5,9 @@ use native.Mathlib.Numerals.{unary_clauses}
 use Rattle.std.specs.List.{prefix_len}
 use Rattle.std.proofs.lemmas.List.{drop_more}
 use Rattle.std.proofs.lemmas.Bool.{eq-eqb, ne_eqb, both_ways, and_right, and_cases, and_parts, or_from, or_left, or_right, cases_Bool}
-use Rattle.opf.specs.Text.{lines, onto, at_lf, every}
-use Rattle.opf.specs.Fields.{other_than}
-use Rattle.opf.specs.LineEnds.{without_cr, line_end_byte}
+use Rattle.text.specs.Bytes.{every, other_than, without_cr}
+use Rattle.opf.specs.Text.{lines, onto, at_lf}
+use Rattle.opf.specs.LineEnds.{line_end_byte}
 use Rattle.opf.specs.Files.{blank}
 
 -- a byte that is good at i

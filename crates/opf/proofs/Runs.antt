@@ -4,7 +4,8 @@ use Rattle.std.specs.List.{prefix_len}
 use Rattle.std.proofs.lemmas.List.{get_or-drop, drop-drop, get_or_past}
 use Rattle.std.proofs.lemmas.Bool.{cases_Bool, not_from_true, not_from_false}
 use Rattle.opf.specs.Text.{onto}
-use Rattle.opf.specs.Fields.{is_byte, other_than, in_run, runs}
+use Rattle.text.specs.Bytes.{is_byte, other_than}
+use Rattle.opf.specs.Fields.{in_run, runs}
 
 spaces_more : (b : ℕ) (s : List ℕ) → eqb b 32 ≡ true → prefix_len (is_byte 32) (b ∷ s) ≡ suc (prefix_len (is_byte 32) s)
 spaces_more b s t = rw t (one-add (prefix_len (is_byte 32) s))

@@ -1,13 +1,8 @@
 -- The fields of a data line: the runs of bytes other than spaces, up to the first slash.
-use Rattle.std.specs.Prelude.{ℕ, ◌-◌, Bool, false, cond, not, List, [], ◌∷◌, take, ◌==◌, slice_index_or}
+use Rattle.std.specs.Prelude.{ℕ, ◌-◌, Bool, false, cond, List, [], ◌∷◌, take, ◌==◌, slice_index_or}
 use Rattle.std.specs.List.{prefix_len}
+use Rattle.text.specs.Bytes.{other_than}
 use Rattle.opf.specs.Text.{onto}
-
-abbrev pub is_byte : ℕ → ℕ → Bool
-is_byte b x = x == b
-
-abbrev pub other_than : ℕ → ℕ → Bool
-other_than b x = not (x == b)
 
 abbrev pub before_slash : List ℕ → List ℕ
 before_slash s = take (prefix_len (other_than 47) s) s

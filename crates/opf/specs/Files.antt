@@ -5,8 +5,9 @@ use Rattle.refusal.specs.declared.fault.Fault.TheVariants as fault
 use Rattle.aircraft.specs.declared.words.Configuration.TheVariants as flaps
 use Rattle.aircraft.specs.declared.draft.Draft.{Draft}
 use Rattle.opf.specs.Faults.{unless, or_else, judge}
-use Rattle.opf.specs.Text.{lines, every, text_fault, line_of, Line, comment, data_line, last}
-use Rattle.opf.specs.Fields.{fields, is_byte}
+use Rattle.text.specs.Bytes.{every, is_byte}
+use Rattle.opf.specs.Text.{lines, text_fault, line_of, Line, comment, data_line, last}
+use Rattle.opf.specs.Fields.{fields}
 use Rattle.opf.specs.DataLines.{Fields, nth_line, natural, engine_of, masses_of, row_from, line_naming, configuration_lines, thrust_of, descent_of, consumption_of, idle_of, data_fault}
 use Rattle.opf.specs.Quantities as quantity
 

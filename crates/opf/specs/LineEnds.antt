@@ -1,5 +1,5 @@
--- How the code's tokens are read, and a line without a CR at its end.
-use Rattle.std.specs.Prelude.{ℕ, Bool, cond, ◌||◌, List, [], ◌∷◌, Some, None, Option, ◌==◌}
+-- How the code's tokens are read, and the bytes of line ends.
+use Rattle.std.specs.Prelude.{ℕ, Bool, ◌||◌, Some, None, Option, ◌==◌}
 use Rattle.opf.specs.declared.token.Token.{Token}
 use Rattle.opf.specs.declared.token.Token.TheVariants as token
 use Rattle.opf.specs.Text.{Line, comment, data_line, last}
@@ -9,11 +9,6 @@ line_seen None = None
 line_seen (Some (token.Comment s)) = Some (comment s.now)
 line_seen (Some (token.Data s)) = Some (data_line s.now)
 line_seen (Some (token.End s)) = Some (last s.now)
-
-abbrev pub without_cr : List ℕ → List ℕ
-without_cr [] = []
-without_cr (b ∷ []) = cond (b == 13) [] (b ∷ [])
-without_cr (b ∷ c ∷ s) = b ∷ without_cr (c ∷ s)
 
 -- LF or CR
 abbrev pub line_end_byte : ℕ → Bool

@@ -1,15 +1,8 @@
 -- The number that a field prints, and its value as a whole count of a unit.
-use Rattle.std.specs.Prelude.{ℕ, ◌+◌, ◌-◌, ◌*◌, ◌/◌, ◌%◌, ◌^◌, Bool, true, false, cond, not, ◌&&◌, ◌||◌, List, [], ◌∷◌, length, take, drop, ℤ, pos, ◌-ℤ◌, Some, None, Option, ◌==◌, nat_le, slice_index}
+use Rattle.std.specs.Prelude.{ℕ, ◌+◌, ◌*◌, ◌/◌, ◌%◌, ◌^◌, Bool, true, false, cond, not, ◌&&◌, ◌||◌, List, length, take, drop, ℤ, pos, ◌-ℤ◌, Some, None, Option, ◌==◌, nat_le, slice_index}
+use Rattle.text.specs.Digits.{digits_of}
 use Rattle.opf.specs.declared.number.Number.{Number}
 use Rattle.opf.specs.declared.number.Quantity.{Quantity}
-
-abbrev pub digit : ℕ → Bool
-digit b = nat_le 48 b && nat_le b 57
-
--- digits, read from the left after the number a
-abbrev pub digits_of : ℕ → List ℕ → Option ℕ
-digits_of a [] = Some a
-digits_of a (b ∷ s) = cond (digit b) (digits_of (a * 10 + (b - 48)) s) None
 
 -- whether the exponent's sign is a minus; it is a plus or a minus
 abbrev pub lowers : ℕ → Option Bool

@@ -1,12 +1,9 @@
 -- The lines of a text, what a line is, and the fault of a line as text.
-use Rattle.std.specs.Prelude.{ℕ, Bool, true, false, cond, ◌&&◌, List, [], ◌∷◌, length, Some, None, Option, ◌==◌, nat_le}
+use Rattle.std.specs.Prelude.{ℕ, Bool, false, cond, ◌&&◌, List, [], ◌∷◌, length, Some, None, Option, ◌==◌, nat_le}
 use Rattle.refusal.specs.declared.fault.Fault.{Fault}
 use Rattle.refusal.specs.declared.fault.Fault.TheVariants as fault
+use Rattle.text.specs.Bytes.{every, printable}
 use Rattle.opf.specs.Faults.{unless}
-
-abbrev pub every : (ℕ → Bool) → List ℕ → Bool
-every p [] = true
-every p (b ∷ s) = p b && every p s
 
 -- a byte in front of the first of some runs of bytes
 abbrev pub onto : ℕ → List (List ℕ) → List (List ℕ)
@@ -21,9 +18,6 @@ at_lf (b ∷ s) = b == 10
 abbrev pub lines : List ℕ → List (List ℕ)
 lines [] = []
 lines (b ∷ s) = cond (b == 10) ([] ∷ lines s) (cond (b == 13 && at_lf s) (lines s) (onto b (lines s)))
-
-abbrev pub printable : ℕ → Bool
-printable b = nat_le 32 b && nat_le b 126
 
 -- at most 160 bytes, each of 32 to 126
 abbrev pub text_fault : ℕ → List ℕ → Option Fault

@@ -1,7 +1,8 @@
 // The fields of a data line.
 ghost use Rattle.std.specs.Prelude.{◌≡◌, ◌≤◌, [], length, drop, slice_index_or};
 ghost use Rattle.std.specs.List.{prefix_len};
-ghost use Rattle.opf.specs.Fields.{is_byte, before_slash, runs};
+ghost use Rattle.text.specs.Bytes.{is_byte};
+ghost use Rattle.opf.specs.Fields.{before_slash, runs};
 ghost use Rattle.opf.specs.Runs.{CutsField};
 
 use crate::scan::{repeats, up_to};

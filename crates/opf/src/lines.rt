@@ -1,25 +1,15 @@
 // The first line of a text, and what follows it.
 ghost use Rattle.std.specs.Prelude.{◌≡◌, ◌<◌, ◌∷◌, length};
 ghost use Rattle.opf.specs.Text.{lines};
-ghost use Rattle.opf.specs.LineEnds.{without_cr};
 
 use crate::scan::up_to;
+use text::bytes::without_cr;
 
 // A line without its end, and the text after that end.
 #[derive(Clone, Copy)]
 pub(crate) struct Cut<'a> {
     pub(crate) line: &'a [u8],
     pub(crate) rest: &'a [u8],
-}
-
-// A line before its LF loses a CR at its end.
-fn strip_cr(line: &[u8]) -> &[u8]
-    ensures { result.now ≡ without_cr line.now }
-{
-    match line {
-        [front @ .., b'\r'] => front,
-        _ => line,
-    }
 }
 
 pub(crate) fn first_line(text: &[u8]) -> Cut<'_>
@@ -35,7 +25,7 @@ pub(crate) fn first_line(text: &[u8]) -> Cut<'_>
         };
     }
     Cut {
-        line: strip_cr(&text[0..n]),
+        line: without_cr(&text[0..n]),
         rest: &text[n + 1..],
     }
 }

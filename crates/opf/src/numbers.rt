@@ -1,25 +1,10 @@
 // Reads a number field, and its value as a whole count of a unit.
-ghost use Rattle.std.specs.Prelude.{◌≡◌, ◌^◌, ◌<◌, ◌≤◌, length, IfSome};
-ghost use Rattle.opf.specs.Numbers.{digits_of, lowers, unsigned_number, number_of, raising, lowering, fixed_point, whole_count, natural_in, signed_value, signed_in};
+ghost use Rattle.std.specs.Prelude.{◌≡◌, ◌<◌, ◌≤◌, length, IfSome};
+ghost use Rattle.opf.specs.Numbers.{lowers, unsigned_number, number_of, raising, lowering, fixed_point, whole_count, natural_in, signed_value, signed_in};
 ghost use Rattle.opf.specs.Counts.{Small, at_most};
 
 use crate::number::{Number, Quantity};
-
-// The number that some digits write.
-fn digits(s: &[u8]) -> Option<u32>
-    requires { length s.now ≤ 5 }
-    ensures value { result ≡ digits_of 0 s.now }
-    ensures bound { IfSome result (λ n. n < 10 ^ length s.now) }
-{
-    let mut n = 0u32;
-    for b in s {
-        if *b < b'0' || *b > b'9' {
-            return None;
-        }
-        n = n * 10 + (*b - b'0') as u32;
-    }
-    Some(n)
-}
+use text::digits::digits;
 
 // Whether the sign of an exponent lowers the number.
 fn is_lowering(sign: u8) -> Option<bool>
@@ -45,9 +30,9 @@ fn unsigned(t: &[u8], negative: bool) -> Option<Number>
     let exponent = digits(&t[8..])?;
     Some(Number {
         negative,
-        digits: value,
+        digits: value as u32,
         lowered,
-        exponent,
+        exponent: exponent as u32,
     })
 }
 

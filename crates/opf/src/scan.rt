@@ -1,7 +1,7 @@
 // Runs of bytes at the front of a slice.
 ghost use Rattle.std.specs.Prelude.{◌≡◌, ◌≤◌, length};
 ghost use Rattle.std.specs.List.{prefix_len};
-ghost use Rattle.opf.specs.Fields.{is_byte, other_than};
+ghost use Rattle.text.specs.Bytes.{is_byte, other_than};
 
 // How many bytes stand before the first `b`.
 pub(crate) fn up_to(s: &[u8], b: u8) -> usize

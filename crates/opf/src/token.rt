@@ -1,11 +1,12 @@
 // What a line is, and its fault as text.
 ghost use Rattle.std.specs.Prelude.{◌≡◌};
-ghost use Rattle.opf.specs.Text.{every, printable, text_fault, line_of};
+ghost use Rattle.opf.specs.Text.{text_fault, line_of};
 ghost use Rattle.opf.specs.Faults.{Judges};
 ghost use Rattle.opf.specs.Lines.{done};
 ghost use Rattle.opf.specs.LineEnds.{line_seen};
 
 use refusal::fault::Fault;
+use text::bytes::is_printable;
 
 // A line by its first two letters, with what follows them.
 #[derive(Clone, Copy)]
@@ -13,24 +14,6 @@ pub(crate) enum Token<'a> {
     Comment(&'a [u8]),
     Data(&'a [u8]),
     End(&'a [u8]),
-}
-
-// Whether a line may have the byte.
-fn is_allowed(b: u8) -> bool
-    ensures { result ≡ printable b }
-{
-    b >= 32 && b <= 126
-}
-
-fn is_printable(line: &[u8]) -> bool
-    ensures { result ≡ every printable line.now }
-{
-    for b in line {
-        if !is_allowed(*b) {
-            return false;
-        }
-    }
-    true
 }
 
 // Judges the line's length and bytes.

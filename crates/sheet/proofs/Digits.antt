@@ -3,7 +3,7 @@ use Rattle.std.proofs.Common.{◌≡◌, ℕ, ◌+◌, ◌-◌, ◌*◌, ◌^◌
 use native.Mathlib.Nat.{pow-le-pow_right}
 use Rattle.std.proofs.lemmas.List.{drop_more}
 use Rattle.std.proofs.lemmas.Bool.Decides.{nat_tests}
-use Rattle.opf.specs.Numbers.{digit, digits_of}
+use Rattle.text.specs.Digits.{digit, digits_of}
 
 pub digits_yes : (n i : ℕ) (s : List ℕ) → i < length s → 48 ≤ get_or s i 0 → get_or s i 0 ≤ 57 → digits_of (n * 10 + (get_or s i 0 - 48)) (drop (i + 1) s) ≡ digits_of n (drop i s)
 digits_yes n i s h p q = let e : digit (get_or s i 0) ≡ true = grind (arith, nat_tests) in rw (drop_more s i 0, e)

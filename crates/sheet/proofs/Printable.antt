@@ -4,7 +4,7 @@ use Rattle.std.proofs.lemmas.List.{drop_more}
 use Rattle.std.proofs.lemmas.Str.{IsUtf8-from_ascii}
 use Rattle.std.proofs.lemmas.Bool.{and_parts}
 use Rattle.std.proofs.lemmas.Bool.Decides.{nat_tests}
-use Rattle.opf.specs.Text.{every, printable}
+use Rattle.text.specs.Bytes.{every, printable}
 
 pub printable_more : (s : List ℕ) (i : ℕ) → i < length s → 32 ≤ get_or s i 0 → get_or s i 0 ≤ 126 → every printable (drop (i + 1) s) ≡ every printable (drop i s)
 printable_more s i h p q = let e : printable (get_or s i 0) ≡ true = grind (arith, nat_tests) in rw (drop_more s i 0, e)

@@ -1,7 +1,7 @@
 -- The form of a script line: its first word and the numbers after it.
 use Rattle.std.specs.Prelude.{ℕ, cond, List, Some, None, codes, Option}
 use Rattle.std.specs.Str.{bytes_eq}
-use Rattle.opf.specs.Text.{every, printable}
+use Rattle.text.specs.Bytes.{every, printable}
 use Rattle.sheet.specs.declared.form.Form.{Form}
 use Rattle.sheet.specs.declared.form.Form.TheVariants as form
 use Rattle.sheet.specs.declared.form.Call.TheVariants as call

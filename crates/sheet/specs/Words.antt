@@ -1,8 +1,8 @@
 -- The words of a line and the numbers that they write.
 use Rattle.std.specs.Prelude.{ℕ, ◌+◌, Bool, cond, ◌&&◌, List, length, take, drop, ℤ, pos, ◌-ℤ◌, Some, None, Option, ◌==◌, nat_le, nat_lt, slice_index}
 use Rattle.std.specs.List.{prefix_len}
-use Rattle.opf.specs.Fields.{other_than}
-use Rattle.opf.specs.Numbers.{digits_of}
+use Rattle.text.specs.Bytes.{other_than}
+use Rattle.text.specs.Digits.{digits_of}
 
 abbrev pub no_space : ℕ → Bool
 no_space = other_than 32

@@ -1,6 +1,6 @@
 // Reads the form of a script line.
 ghost use Rattle.std.specs.Prelude.{◌≡◌, true, OnSome};
-ghost use Rattle.opf.specs.Text.{every, printable};
+ghost use Rattle.text.specs.Bytes.{every, printable};
 ghost use Rattle.sheet.specs.Words.{behind};
 ghost use Rattle.sheet.specs.Forms.{bench_form, reserved_form, unreserved_form, start_form, leg_form, uplift_form, jettison_form, form_by, form_of};
 

@@ -1,7 +1,7 @@
 // What a script line does to a sheet.
 ghost use Rattle.std.specs.Prelude.{◌≡◌, true, Ok};
 ghost use Rattle.air.specs.Days.{bench_pair};
-ghost use Rattle.opf.specs.Text.{every, printable};
+ghost use Rattle.text.specs.Bytes.{every, printable};
 ghost use Rattle.sheet.specs.Sheets.{Fresh, DayLine, DayTaken, noted, bench_noted, standard, StartMade, StartLine, CallLine, named, Takes};
 
 use crate::answer::Answer;

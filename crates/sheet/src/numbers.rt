@@ -1,6 +1,6 @@
 // The numbers of a script line.
 ghost use Rattle.std.specs.Prelude.{◌≡◌, ◌^◌, ◌<◌, ◌≤◌, length, pos, ◌-ℤ◌, IfSome};
-ghost use Rattle.opf.specs.Numbers.{digits_of};
+ghost use Rattle.text.specs.Digits.{digits_of};
 ghost use Rattle.sheet.specs.Words.{number_of, negative_of, positive_of, deviation_of};
 
 // The number that some digits write.

@@ -2,7 +2,7 @@
 ghost use Rattle.std.specs.Prelude.{◌≡◌, ◌≤◌, length};
 ghost use Rattle.std.specs.List.{prefix_len};
 ghost use Rattle.std.specs.Str.{bytes_eq};
-ghost use Rattle.opf.specs.Text.{every, printable};
+ghost use Rattle.text.specs.Bytes.{every, printable};
 ghost use Rattle.sheet.specs.Words.{no_space, first_word, behind, has_more};
 
 // The bytes before the first space, those after it, and whether there is one.

@@ -1,6 +1,6 @@
 use Rattle.std.proofs.Common.{sym, ◌∙◌, inl, inr}
 use Rattle.std.proofs.lemmas.List.{at_drop_all}
-use Rattle.opf.specs.Text.{every}
+use Rattle.text.specs.Bytes.{every}
 use Rattle.opf.specs.LineEnds.{line_end_byte}
 use Rattle.opf.proofs.LineEnds.{blank_is, line_end_stops, line_end_more}
 use Rattle.opf.proofs.file.only_line_ends.Goals as goal

@@ -1,5 +1,5 @@
 use Rattle.std.proofs.Common.{◌≡◌, drop}
-use Rattle.opf.specs.Text.{every}
+use Rattle.text.specs.Bytes.{every}
 use Rattle.opf.specs.LineEnds.{line_end_byte}
 use Rattle.opf.proofs.file.only_line_ends.Given as goal
 

@@ -1,7 +1,7 @@
 use Rattle.std.proofs.Common.{◌+◌, ◌<◌, ◌≤◌, length, sym, ◌∙◌, arith, length-drop}
 use Rattle.std.specs.List.{prefix_len}
 use Rattle.std.proofs.lemmas.List.{take_rest, drop_all}
-use Rattle.opf.specs.Fields.{other_than}
+use Rattle.text.specs.Bytes.{other_than}
 use Rattle.opf.proofs.LineEnds.{line_cut, line_last}
 use Rattle.opf.proofs.lines.first_line.Goals as goal
 
@@ -20,4 +20,4 @@ returns c =
     let s = c.args.text.now in
     let n = c.up_to-n.result in
     let less : prefix_len (other_than 10) s < length s = omega arith in
-    record { cuts = rw (take_rest s (n + 1)) (line_cut s n c.strip_cr.result.now c.up_to-n.ensures.count less c.strip_cr.ensures); shorter = simp (take_rest, length-drop) (omega arith) }
+    record { cuts = rw (take_rest s (n + 1)) (line_cut s n c.without_cr.result.now c.up_to-n.ensures.count less c.without_cr.ensures); shorter = simp (take_rest, length-drop) (omega arith) }

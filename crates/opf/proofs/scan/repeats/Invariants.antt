@@ -1,6 +1,6 @@
 use Rattle.std.proofs.Common.{◌≡◌, ◌+◌, ◌-◌, ◌≤◌, length, drop}
 use Rattle.std.specs.List.{prefix_len}
-use Rattle.opf.specs.Fields.{is_byte}
+use Rattle.text.specs.Bytes.{is_byte}
 use Rattle.opf.proofs.scan.repeats.Given as goal
 
 abbrev pub invariant-loop-n : goal.invariant-loop-n

@@ -1,6 +1,6 @@
 use Rattle.std.proofs.Common.{◌≡◌, ◌+◌, ◌-◌, ◌≤◌, length, drop}
 use Rattle.std.specs.List.{prefix_len}
-use Rattle.opf.specs.Fields.{other_than}
+use Rattle.text.specs.Bytes.{other_than}
 use Rattle.opf.proofs.scan.up_to.Given as goal
 
 abbrev pub invariant-loop-n : goal.invariant-loop-n

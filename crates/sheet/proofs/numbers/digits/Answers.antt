@@ -1,6 +1,6 @@
 use Rattle.std.proofs.Common.{◌-◌, ◌<◌, get_or, sym, ◌∙◌, inl, inr, arith}
 use Rattle.std.proofs.lemmas.List.{at_drop_all}
-use Rattle.opf.specs.Numbers.{digits_of}
+use Rattle.text.specs.Digits.{digits_of}
 use Rattle.sheet.proofs.Digits.{below_ten_digits, digits_yes, digits_no, more_digits}
 use Rattle.sheet.proofs.numbers.digits.Goals as goal
 use Rattle.sheet.proofs.numbers.digits.Goals.{then-b-lt48-via-then-b-lt48, then-b-lt48-via-else-b-lt48+then-b-gt57}

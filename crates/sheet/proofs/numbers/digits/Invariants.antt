@@ -1,5 +1,5 @@
 use Rattle.std.proofs.Common.{◌≡◌, ◌^◌, ◌<◌, drop}
-use Rattle.opf.specs.Numbers.{digits_of}
+use Rattle.text.specs.Digits.{digits_of}
 use Rattle.sheet.proofs.numbers.digits.Given as goal
 
 abbrev pub invariant-loop-b : goal.invariant-loop-b

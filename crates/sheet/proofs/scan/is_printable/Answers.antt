@@ -1,6 +1,6 @@
 use Rattle.std.proofs.Common.{sym, ◌∙◌, inl, inr, rules}
 use Rattle.std.proofs.lemmas.List.{at_drop_all}
-use Rattle.opf.specs.Text.{every, printable}
+use Rattle.text.specs.Bytes.{every, printable}
 use Rattle.sheet.proofs.Printable.{printable_more, unprintable}
 use Rattle.sheet.proofs.scan.is_printable.Goals as goal
 use Rattle.sheet.proofs.scan.is_printable.Goals.{then-b-lt32-via-then-b-lt32, then-b-lt32-via-else-b-lt32+then-b-gt126}

@@ -1,5 +1,5 @@
 use Rattle.std.proofs.Common.{◌≡◌, drop}
-use Rattle.opf.specs.Text.{every, printable}
+use Rattle.text.specs.Bytes.{every, printable}
 use Rattle.sheet.proofs.scan.is_printable.Given as goal
 
 abbrev pub invariant-loop-b : goal.invariant-loop-b
