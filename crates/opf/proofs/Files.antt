@@ -11,11 +11,11 @@ use Rattle.text.specs.Bytes.{every, is_byte}
 use Rattle.opf.specs.Text.{line_of, letters, Line, comment, data_line, last}
 use Rattle.opf.specs.Fields.{fields}
 use Rattle.opf.specs.Numbers.{number_of}
-use Rattle.opf.specs.DataLines.{Fields, natural, integer}
+use Rattle.opf.specs.DataLines.{Fields, counted, natural, integer}
 use Rattle.opf.specs.Files.{by_line, own_fields, is_end, data_lines, line_fault, blank, lines_fault, draft_of}
 
 pub empty_is : empty_draft ≡ draft_of []
-unfolding natural integer number_of
+unfolding counted number_of
 empty_is = refl
 
 end_has_none : (o : Option Line) → by_line o false (λ s. false) true false ≡ true → ◌≡◌ {A = List Fields} (by_line o [] (λ s. fields s ∷ []) [] []) []
