@@ -11,7 +11,7 @@ use std::test::Fail;
 fn refusal_of(density: u64, deviation: i64) -> u8 {
     match Bench::new(density, deviation) {
         Ok(_) => 0,
-        Err(refusal) => refusal.number(),
+        Err(refusal) => u8::from(refusal),
     }
 }
 
@@ -52,6 +52,6 @@ fn any_day(rt: HostRuntime) -> Result<(), Fail> {
     assert_eq!(rt; bench.at(60000), Ok((45000, -100)));
     assert_eq!(rt; bench.at(60001), Err(Refusal::TooHigh));
     assert_eq!(rt; AnyDay::Standard(Standard).at(10000), Ok((90464, 0)));
-    assert_eq!(rt; Refusal::TooHigh.number(), 12);
+    assert_eq!(rt; u8::from(Refusal::TooHigh), 12);
     Ok(())
 }

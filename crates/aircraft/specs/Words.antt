@@ -1,10 +1,13 @@
 -- The word of each engine type and configuration, the row of a configuration, and which of them a word names.
-use Rattle.std.specs.Prelude.{ℕ, cond, List, [], ◌∷◌, Some, None, codes, Option}
+use Rattle.std.specs.Prelude.{ℕ, List, [], ◌∷◌, codes, Option, Result}
+use Rattle.std.specs.List.{find}
+use Rattle.std.specs.Option.{ok_or}
 use Rattle.std.specs.Str.{bytes_eq}
 use Rattle.aircraft.specs.declared.words.EngineType.{EngineType}
 use Rattle.aircraft.specs.declared.words.EngineType.TheVariants as engine
 use Rattle.aircraft.specs.declared.words.Configuration.{Configuration}
 use Rattle.aircraft.specs.declared.words.Configuration.TheVariants as flaps
+use Rattle.aircraft.specs.declared.words.UnknownWord.{UnknownWord}
 use Rattle.aircraft.specs.declared.record.Engine.{Engine}
 use Rattle.aircraft.specs.declared.record.Engine.TheVariants as record_engine
 
@@ -32,8 +35,7 @@ configuration_row flaps.Landing = 4
 
 -- the first of some whose word is the given one
 abbrev pub first_named : {X : Type 0} → (X → List ℕ) → List X → List ℕ → Option X
-first_named word [] s = None
-first_named word (x ∷ xs) s = cond (bytes_eq s (word x)) (Some x) (first_named word xs s)
+first_named word xs s = find (λ x. bytes_eq s (word x)) xs
 
 abbrev pub engine_named : List ℕ → Option EngineType
 engine_named = first_named engine_word (engine.Jet ∷ engine.Turboprop ∷ [])
@@ -41,3 +43,7 @@ engine_named = first_named engine_word (engine.Jet ∷ engine.Turboprop ∷ [])
 abbrev pub configuration_named : List ℕ → Option Configuration
 configuration_named =
     first_named configuration_word (flaps.Cruise ∷ flaps.InitialClimb ∷ flaps.TakeOff ∷ flaps.Approach ∷ flaps.Landing ∷ [])
+
+-- what is named, or that the word is unknown
+abbrev pub known : {X : Type 0} → Option X → Result X UnknownWord
+known o = ok_or o record {}

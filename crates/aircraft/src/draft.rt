@@ -8,13 +8,12 @@ pub struct DraftMasses {
     pub maximum: u64,
 }
 
-// One configuration; `given` once its line has come.
+// One configuration.
 #[derive(Clone, Copy, Debug)]
 pub struct DraftRow {
     pub stall: u64,
     pub cd0: u64,
     pub cd2: u64,
-    pub given: bool,
 }
 
 #[derive(Clone, Copy, Debug)]
@@ -53,7 +52,8 @@ pub struct Draft {
     pub masses: DraftMasses,
     pub ceiling: u64,
     pub wing: u64,
-    pub rows: [DraftRow; 5],
+    // A configuration's row, once its line has come.
+    pub rows: [Option<DraftRow>; 5],
     pub gear: u64,
     pub thrust: DraftThrust,
     pub descent: DraftDescent,

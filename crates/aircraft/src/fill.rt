@@ -1,7 +1,7 @@
 // One row of the plain record is filled; all else stays.
-ghost use Rattle.std.specs.Prelude.{◌≡◌, ℕ, ◌≢◌, slice_index_or};
+ghost use Rattle.std.specs.Prelude.{◌≡◌, ℕ, ◌≢◌, None, slice_index_or};
 ghost use Rattle.aircraft.specs.Words.{configuration_row};
-ghost use Rattle.aircraft.specs.Drafts.{with_row, no_row, empty_draft};
+ghost use Rattle.aircraft.specs.Drafts.{with_row, empty_draft};
 
 use crate::draft::{
     Draft, DraftConsumption, DraftDescent, DraftIdle, DraftMasses, DraftRow, DraftThrust,
@@ -22,12 +22,7 @@ impl Draft {
             },
             ceiling: 0,
             wing: 0,
-            rows: [DraftRow {
-                stall: 0,
-                cd0: 0,
-                cd2: 0,
-                given: false,
-            }; 5],
+            rows: [None; 5],
             gear: 0,
             thrust: DraftThrust {
                 ctc1: 0,
@@ -52,9 +47,9 @@ impl Draft {
     // Fills the row of `c` and no other.
     pub fn fill(&mut self, c: Configuration, row: DraftRow)
         ensures after { self.new ≡ with_row self.old c row }
-        ensures others { (k : ℕ) → (k ≢ configuration_row c) → slice_index_or self.new.rows k no_row ≡ slice_index_or self.old.rows k no_row }
+        ensures others { (k : ℕ) → (k ≢ configuration_row c) → slice_index_or self.new.rows k None ≡ slice_index_or self.old.rows k None }
     {
         let i = c.row();
-        self.rows[i] = row;
+        self.rows[i] = Some(row);
     }
 }

@@ -1,31 +1,49 @@
 // The words of engines and configurations, and the row of a configuration.
-ghost use Rattle.std.specs.Prelude.{◌≡◌, ◌<◌, Some};
-ghost use Rattle.std.specs.Str.{bytes_eq};
-ghost use Rattle.aircraft.specs.Words.{engine_word, configuration_word, configuration_row, engine_named, configuration_named, engine_type};
+ghost use Rattle.std.specs.Prelude.{◌≡◌, ℕ, ◌<◌, List, Some};
+ghost use Rattle.aircraft.specs.Words.{engine_word, configuration_word, configuration_row, first_named, engine_named, configuration_named, known, engine_type};
 
 use crate::record::Engine;
-use crate::words::{Configuration, EngineType};
+use crate::words::{Configuration, EngineType, UnknownWord};
 use std::fmt;
 
-// Whether two words have the same bytes.
-fn same(word: &[u8], name: &[u8]) -> bool
-    ensures { result ≡ bytes_eq word.now name.now }
-{
-    word == name
+// A kind that files name by a word.
+trait Worded: Copy {
+    ghost own_word: { Self → List ℕ };
+
+    fn word(self) -> &'static str
+        ensures { result.now ≡ own_word self };
 }
 
-impl EngineType {
-    // The engine that a word of a file names.
-    pub fn named(word: &[u8]) -> Option<EngineType>
-        ensures { result ≡ engine_named word.now }
-    {
-        if same(word, b"Jet") {
-            Some(EngineType::Jet)
-        } else if same(word, b"Turboprop") {
-            Some(EngineType::Turboprop)
-        } else {
-            None
+// The first of some kinds that a word names.
+fn named<K: Worded>(kinds: &[K], word: &[u8]) -> Result<K, UnknownWord>
+    ensures { result ≡ known (first_named K.own_word kinds.now word.now) }
+{
+    for kind in kinds {
+        if word == kind.word().as_bytes() {
+            return Ok(*kind);
         }
+    }
+    Err(UnknownWord)
+}
+
+impl Worded for EngineType {
+    ghost own_word = { engine_word };
+
+    fn word(self) -> &'static str {
+        match self {
+            EngineType::Jet => "Jet",
+            EngineType::Turboprop => "Turboprop",
+        }
+    }
+}
+
+impl TryFrom<&[u8]> for EngineType {
+    type Error = UnknownWord;
+
+    ghost try_from_gives = { λ word r. r ≡ known (engine_named word.now) };
+
+    fn try_from(word: &[u8]) -> Result<EngineType, UnknownWord> {
+        named(&[EngineType::Jet, EngineType::Turboprop], word)
     }
 }
 
@@ -33,56 +51,61 @@ impl fmt::Display for EngineType {
     ghost output = { λ e. Some (engine_word e) };
 
     fn fmt<W: fmt::Write>(&self, f: &mut fmt::Formatter<W>) -> fmt::Result {
-        match self {
-            EngineType::Jet => write!(f, "Jet"),
-            EngineType::Turboprop => write!(f, "Turboprop"),
-        }
+        f.write_str(self.word())
     }
 }
 
-impl Engine {
-    pub fn engine_type(&self) -> EngineType
-        ensures { result ≡ engine_type self.now }
-    {
-        match self {
+impl From<&Engine> for EngineType {
+    ghost from_gives = { λ e t. t ≡ engine_type e.now };
+
+    fn from(engine: &Engine) -> EngineType {
+        match engine {
             Engine::Jet(_) => EngineType::Jet,
             Engine::Turboprop(_) => EngineType::Turboprop,
         }
     }
 }
 
-impl Configuration {
-    // The configuration that a word of a file names.
-    pub fn named(word: &[u8]) -> Option<Configuration>
-        ensures { result ≡ configuration_named word.now }
-    {
-        if same(word, b"CR") {
-            Some(Configuration::Cruise)
-        } else if same(word, b"IC") {
-            Some(Configuration::InitialClimb)
-        } else if same(word, b"TO") {
-            Some(Configuration::TakeOff)
-        } else if same(word, b"AP") {
-            Some(Configuration::Approach)
-        } else if same(word, b"LD") {
-            Some(Configuration::Landing)
-        } else {
-            None
+impl Worded for Configuration {
+    ghost own_word = { configuration_word };
+
+    fn word(self) -> &'static str {
+        match self {
+            Configuration::Cruise => "CR",
+            Configuration::InitialClimb => "IC",
+            Configuration::TakeOff => "TO",
+            Configuration::Approach => "AP",
+            Configuration::Landing => "LD",
         }
     }
+}
 
+impl TryFrom<&[u8]> for Configuration {
+    type Error = UnknownWord;
+
+    ghost try_from_gives = { λ word r. r ≡ known (configuration_named word.now) };
+
+    fn try_from(word: &[u8]) -> Result<Configuration, UnknownWord> {
+        named(
+            &[
+                Configuration::Cruise,
+                Configuration::InitialClimb,
+                Configuration::TakeOff,
+                Configuration::Approach,
+                Configuration::Landing,
+            ],
+            word,
+        )
+    }
+}
+
+impl Configuration {
     // Its place among the five rows, from 0.
     pub fn row(self) -> usize
         ensures place { result ≡ configuration_row self }
         ensures within { result < 5 }
     {
-        match self {
-            Configuration::Cruise => 0,
-            Configuration::InitialClimb => 1,
-            Configuration::TakeOff => 2,
-            Configuration::Approach => 3,
-            Configuration::Landing => 4,
-        }
+        self as usize
     }
 }
 
@@ -90,12 +113,6 @@ impl fmt::Display for Configuration {
     ghost output = { λ c. Some (configuration_word c) };
 
     fn fmt<W: fmt::Write>(&self, f: &mut fmt::Formatter<W>) -> fmt::Result {
-        match self {
-            Configuration::Cruise => write!(f, "CR"),
-            Configuration::InitialClimb => write!(f, "IC"),
-            Configuration::TakeOff => write!(f, "TO"),
-            Configuration::Approach => write!(f, "AP"),
-            Configuration::Landing => write!(f, "LD"),
-        }
+        f.write_str(self.word())
     }
 }

@@ -16,3 +16,7 @@ pub enum Configuration {
     Approach,
     Landing,
 }
+
+// A word that names no engine type, or no configuration.
+#[derive(Clone, Copy, PartialEq, Eq, Debug)]
+pub struct UnknownWord;

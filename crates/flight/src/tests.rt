@@ -135,7 +135,7 @@ fn in_the_air() -> Result<Flight<Jet, Bench>, Refusal> {
 fn number<T: Drop>(answer: Result<T, Refusal>) -> u8 {
     match answer {
         Ok(_) => 0,
-        Err(refusal) => refusal.number(),
+        Err(refusal) => u8::from(refusal),
     }
 }
 

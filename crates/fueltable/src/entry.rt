@@ -59,10 +59,7 @@ impl fmt::Display for Entry {
                 };
                 write!(f, "{compared}")
             }
-            Err(refusal) => {
-                let number = refusal.number();
-                write!(f, "  no {number}")
-            }
+            Err(refusal) => { write!(f, "  no {refusal}") }
         }
     }
 }

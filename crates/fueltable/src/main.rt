@@ -73,12 +73,7 @@ fn run(rt: &HostRuntime) -> io::Result<()> {
     let bytes = bytes_of(rt, "aircraft.opf")?;
     match read(bytes.as_slice()) {
         Ok(aircraft) => print_table(rt, &aircraft),
-        Err(fault) => {
-            let number = fault.number();
-            let line = fault.line();
-            let field = fault.field();
-            println!(rt; "no {number} {line} {field}")
-        }
+        Err(fault) => println!(rt; "no {fault}"),
     }
 }
 

@@ -211,7 +211,7 @@ fn refusal_of(
     }
     match fly(&sample(), kind, &day, phase, &request, Mass { milligrams }) {
         Ok(_) => Ok(0),
-        Err(refusal) => Ok(refusal.number()),
+        Err(refusal) => Ok(u8::from(refusal)),
     }
 }
 
@@ -219,7 +219,7 @@ fn refusal_of(
 fn figures(altitude: u64, speed: u64, calibrated: u64, seconds: u64) -> u8 {
     match Request::new(&sample(), altitude, speed, calibrated, seconds) {
         Ok(_) => 0,
-        Err(refusal) => refusal.number(),
+        Err(refusal) => u8::from(refusal),
     }
 }
 

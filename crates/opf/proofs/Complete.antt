@@ -1,7 +1,6 @@
 -- A file without a fault gives a plain record within its ranges, and an aircraft with these values is what the file prints.
-use Rattle.std.proofs.Common.{◌≡◌, ℕ, ◌-◌, ◌≤◌, Bool, true, leb, List, [], ◌∷◌, length, get_or, take, ℤ, is_some, Some, None, Ok, Option, unwrap_or, sym, refl, ap, ◌∙◌, subst, arith}
+use Rattle.std.proofs.Common.{◌≡◌, ℕ, ◌-◌, ◌≤◌, Bool, true, leb, List, [], ◌∷◌, length, get_or, take, ℤ, is_some, Some, None, Ok, Option, IfSome, unwrap_or, sym, refl, ap, ◌∙◌, subst, arith}
 use Rattle.std.proofs.lemmas.List.{get_or-take}
-use Rattle.std.proofs.lemmas.Int.{ints}
 use Rattle.std.proofs.lemmas.Bool.{leb-true, le-leb, and_parts}
 use Rattle.refusal.specs.declared.fault.Fault.{Fault}
 use Rattle.refusal.specs.declared.fault.Fault.TheVariants as fault
@@ -17,15 +16,14 @@ use Rattle.aircraft.specs.declared.record.Row.{Row}
 use Rattle.aircraft.specs.declared.draft.Draft.{Draft}
 use Rattle.aircraft.specs.declared.draft.DraftRow.{DraftRow}
 use Rattle.aircraft.specs.declared.draft.DraftThrust.{DraftThrust}
-use Rattle.aircraft.specs.Drafts.{no_row}
 use Rattle.aircraft.specs.Words.{engine_word, engine_type, engine_named}
 use Rattle.opf.specs.declared.number.Quantity.{Quantity}
 use Rattle.opf.specs.Faults.{unless, or_else, first_of, judge}
 use Rattle.opf.specs.Text.{lines}
 use Rattle.opf.specs.Fields.{field}
-use Rattle.opf.specs.DataLines.{Fields, nth_line, natural, engine_of, masses_of, in_order, thrust_of, thrust_faults, ctc3_fault, row_from, line_naming, configuration_lines, parasitic, one_faults, two_faults}
+use Rattle.opf.specs.DataLines.{Fields, nth_line, natural, engine_of, masses_of, in_order, thrust_of, thrust_faults, row_from, line_naming, configuration_lines, parasitic, one_faults, two_faults}
 use Rattle.opf.specs.Files.{draft_of, lines_fault, data_lines, read_file}
-use Rattle.opf.specs.Records.{values_of, thrust_values, row_values, Ranged, RangedRow, RangedThrust}
+use Rattle.opf.specs.Records.{values_of, thrust_values, row_values, Ranged, GivenRow, RangedThrust}
 use Rattle.opf.specs.Printed.{Prints, PrintsCount, line_of, RowPrinted, ThrustPrinted, Printed}
 use Rattle.opf.specs.Quantities as quantity
 use Rattle.opf.proofs.Accepted.{NaturalRead, natural_clear, IntegerRead, integer_clear}
@@ -42,14 +40,10 @@ pub record MassesRead (fs : Fields) : Type 0 where
   pub lower : natural fs 2 quantity.mass ≤ natural fs 1 quantity.mass
   pub upper : natural fs 1 quantity.mass ≤ natural fs 3 quantity.mass
 
-abbrev Ctc3Read : EngineType → Fields → Type 0
-Ctc3Read engine.Jet fs = NaturalRead fs 3 quantity.jet_ctc3
-Ctc3Read engine.Turboprop fs = IntegerRead fs 3 quantity.turboprop_ctc3
-
 pub record ThrustRead (e : EngineType) (fs : Fields) : Type 0 where
   pub ctc1 : NaturalRead fs 1 (quantity.ctc1 e)
   pub ctc2 : NaturalRead fs 2 quantity.ctc2
-  pub ctc3 : Ctc3Read e fs
+  pub ctc3 : IntegerRead fs 3 (quantity.ctc3 e)
   pub ctc4 : IntegerRead fs 4 quantity.ctc4
   pub ctc5 : NaturalRead fs 5 quantity.ctc5
 
@@ -59,10 +53,6 @@ pub record DescentRead (fs : Fields) : Type 0 where
   pub level : NaturalRead fs 3 quantity.descent_level
   pub approach : NaturalRead fs 4 quantity.descent_factor
   pub landing : NaturalRead fs 5 quantity.descent_factor
-
-ctc3_clear : (e : EngineType) (n : ℕ) (fs : Fields) → ctc3_fault e n fs ≡ None → Ctc3Read e fs
-ctc3_clear engine.Jet n fs h = natural_clear n fs 3 quantity.jet_ctc3 h
-ctc3_clear engine.Turboprop n fs h = integer_clear n fs 3 quantity.turboprop_ctc3 h
 
 thrust_clear : (e : EngineType) (n : ℕ) (fs : Fields) → first_of (thrust_faults e n fs) ≡ None → ThrustRead e fs
 thrust_clear e n fs h =
@@ -75,7 +65,7 @@ thrust_clear e n fs h =
     record {
       ctc1 = natural_clear n fs 1 (quantity.ctc1 e) b.0;
       ctc2 = natural_clear n fs 2 quantity.ctc2 c.0;
-      ctc3 = ctc3_clear e n fs d.0;
+      ctc3 = integer_clear n fs 3 (quantity.ctc3 e) d.0;
       ctc4 = integer_clear n fs 4 quantity.ctc4 f.0;
       ctc5 = natural_clear n fs 5 quantity.ctc5 g.0;
     }
@@ -87,8 +77,8 @@ thrust_ranged engine.Jet fs r =
       ctc1_most = r.ctc1.most;
       ctc2_least = r.ctc2.least;
       ctc2_most = r.ctc2.most;
-      ctc3_least = omega (arith, ints);
-      ctc3_most = omega (arith, ints, r.ctc3.most);
+      ctc3_least = r.ctc3.least;
+      ctc3_most = r.ctc3.most;
     }
 thrust_ranged engine.Turboprop fs r =
     record { ctc1_most = r.ctc1.most; ctc2_least = r.ctc2.least; ctc2_most = r.ctc2.most; ctc3_least = r.ctc3.least; ctc3_most = r.ctc3.most }
@@ -131,13 +121,19 @@ temperature_is (kind.Jet c) t = (refl, refl)
 temperature_is (kind.Turboprop c) t = (refl, refl)
 
 -- the row that is read
-row_is : {d : List Fields} {c : Configuration} (r : RowRead d c) → row_from (line_naming c (configuration_lines d)) ≡ record { stall = natural r.fs (length r.fs - 3) quantity.stall_speed; cd0 = natural r.fs (length r.fs - 2) (quantity.parasitic_drag c); cd2 = natural r.fs (length r.fs - 1) quantity.drag; given = true }
-row_is r = ap row_from r.line ∙ ap (λ (o : Option Configuration). record { stall = natural r.fs (length r.fs - 3) quantity.stall_speed; cd0 = natural r.fs (length r.fs - 2) (parasitic o); cd2 = natural r.fs (length r.fs - 1) quantity.drag; given = true }) r.own
+abbrev row_that : {d : List Fields} {c : Configuration} → RowRead d c → DraftRow
+row_that {d} {c} r = record { stall = natural r.fs (length r.fs - 3) quantity.stall_speed; cd0 = natural r.fs (length r.fs - 2) (quantity.parasitic_drag c); cd2 = natural r.fs (length r.fs - 1) quantity.drag }
 
-row_ranged : {d : List Fields} {c : Configuration} → RowRead d c → RangedRow (row_from (line_naming c (configuration_lines d)))
+row_is : {d : List Fields} {c : Configuration} (r : RowRead d c) → row_from (line_naming c (configuration_lines d)) ≡ Some (row_that r)
+row_is r = ap row_from r.line ∙ ap (λ (o : Option Configuration). Some (record { stall = natural r.fs (length r.fs - 3) quantity.stall_speed; cd0 = natural r.fs (length r.fs - 2) (parasitic o); cd2 = natural r.fs (length r.fs - 1) quantity.drag })) r.own
+
+some_same : {X : Type 0} {x y : X} → Some x ≡ Some y → x ≡ y
+some_same e = cc
+
+row_ranged : {d : List Fields} {c : Configuration} → RowRead d c → GivenRow (row_from (line_naming c (configuration_lines d)))
 row_ranged {d} {c} r =
-    subst RangedRow (sym (row_is r))
-    (record { slowest = r.stall.least; fastest = r.stall.most; parasitic = drag_most c _ r.cd0.most; induced = r.cd2.most; given = refl })
+    subst GivenRow (sym (row_is r))
+    (record { slowest = r.stall.least; fastest = r.stall.most; parasitic = drag_most c _ r.cd0.most; induced = r.cd2.most })
 
 engine_worded : (s : List ℕ) (o : Option EngineType) → engine_named s ≡ o → is_some o ≡ true → s ≡ engine_word (unwrap_or o engine.Jet)
 engine_worded s None e h = absurd (let z : ◌≡◌ {A = ℕ} 0 1 = cc in omega arith)
@@ -170,7 +166,7 @@ module _ {d : List Fields} (w : Whole d) where
       }
 
   -- a line of which field k is read by itself
-  one_read : (k : ℕ) (q : Quantity) (n : ℕ) (fs : Fields) → first_of (one_faults n fs k q) ≡ None → NaturalRead fs k q
+  one_read : (k : ℕ) (q : Quantity ℕ) (n : ℕ) (fs : Fields) → first_of (one_faults n fs k q) ≡ None → NaturalRead fs k q
   one_read k q n fs h = natural_clear n fs k q (none_first _ _ (none_first _ _ h).1).0
 
   ceiling_read : NaturalRead (nth_line d 3) 3 quantity.ceiling
@@ -210,7 +206,7 @@ module _ {d : List Fields} (w : Whole d) where
       }
 
   -- a line of which fields 1 and 2 are read
-  two_read : (q s : Quantity) (n : ℕ) (fs : Fields) → first_of (two_faults n fs q s) ≡ None → NaturalRead fs 1 q × NaturalRead fs 2 s
+  two_read : (q s : Quantity ℕ) (n : ℕ) (fs : Fields) → first_of (two_faults n fs q s) ≡ None → NaturalRead fs 1 q × NaturalRead fs 2 s
   two_read q s n fs h =
       let a = none_first _ _ h in
       let b = none_first _ _ a.1 in
@@ -237,7 +233,7 @@ module _ {d : List Fields} (w : Whole d) where
               takeoff = row_ranged (row_read w flaps.TakeOff);
               approach = row_ranged (row_read w flaps.Approach);
               landing = row_ranged (row_read w flaps.Landing);
-              clean = subst (λ (r : DraftRow). 100000 ≤ r.cd0) (sym (row_is (row_read w flaps.Cruise))) (row_read w flaps.Cruise).cd0.least;
+              clean = subst (λ (o : Option DraftRow). IfSome o (λ r. 100000 ≤ r.cd0)) (sym (row_is (row_read w flaps.Cruise))) (row_read w flaps.Cruise).cd0.least;
             };
         gear_most = gear_read.most;
         thrust = thrust_ranged (engine_of (nth_line d 1)) (nth_line d 16) thrust_read;
@@ -261,13 +257,13 @@ module _ {d : List Fields} (w : Whole d) where
   -- an aircraft with these values
   module _ (a : Aircraft) (same : values_of a ≡ draft_of d) where
     -- a count that the record holds is the one that the field prints
-    prints : {fs : Fields} {k : ℕ} {q : Quantity} (g : Draft → ℕ) → g (draft_of d) ≡ natural fs k q → NaturalRead fs k q → PrintsCount (field fs k) q (g (values_of a))
+    prints : {fs : Fields} {k : ℕ} {q : Quantity ℕ} (g : Draft → ℕ) → g (draft_of d) ≡ natural fs k q → NaturalRead fs k q → PrintsCount (field fs k) q (g (values_of a))
     prints {fs} {k} {q} g e r = subst (λ (v : ℕ). PrintsCount (field fs k) q v) (sym (ap g same ∙ e)) r.prints
 
-    row_printed : (c : Configuration) (r : Row) (g : Draft → DraftRow) → g (draft_of d) ≡ row_from (line_naming c (configuration_lines d)) → row_values r ≡ g (values_of a) → RowPrinted (line_of d c) c r
+    row_printed : (c : Configuration) (r : Row) (g : Draft → Option DraftRow) → g (draft_of d) ≡ row_from (line_naming c (configuration_lines d)) → Some (row_values r) ≡ g (values_of a) → RowPrinted (line_of d c) c r
     row_printed c r g e f =
         let x = row_read w c in
-        let held = f ∙ ap g same ∙ e ∙ row_is x in
+        let held : row_values r ≡ row_that x = some_same (f ∙ ap g same ∙ e ∙ row_is x) in
         subst (λ (fs : Fields). RowPrinted fs c r) (sym (ap (λ (o : Option Fields). unwrap_or o []) x.line))
         (record {
           word = x.word;
@@ -285,11 +281,11 @@ module _ {d : List Fields} (w : Whole d) where
           maximum = prints (λ x. x.masses.maximum) refl masses_read.maximum;
           ceiling = prints (λ x. x.ceiling) refl ceiling_read;
           wing = prints (λ x. x.wing) refl wing_read;
-          cruise_row = row_printed flaps.Cruise a.rows.cruise (λ x. get_or x.rows 0 no_row) refl refl;
-          initial_row = row_printed flaps.InitialClimb a.rows.initial (λ x. get_or x.rows 1 no_row) refl refl;
-          takeoff_row = row_printed flaps.TakeOff a.rows.takeoff (λ x. get_or x.rows 2 no_row) refl refl;
-          approach_row = row_printed flaps.Approach a.rows.approach (λ x. get_or x.rows 3 no_row) refl refl;
-          landing_row = row_printed flaps.Landing a.rows.landing (λ x. get_or x.rows 4 no_row) refl refl;
+          cruise_row = row_printed flaps.Cruise a.rows.cruise (λ x. get_or x.rows 0 None) refl refl;
+          initial_row = row_printed flaps.InitialClimb a.rows.initial (λ x. get_or x.rows 1 None) refl refl;
+          takeoff_row = row_printed flaps.TakeOff a.rows.takeoff (λ x. get_or x.rows 2 None) refl refl;
+          approach_row = row_printed flaps.Approach a.rows.approach (λ x. get_or x.rows 3 None) refl refl;
+          landing_row = row_printed flaps.Landing a.rows.landing (λ x. get_or x.rows 4 None) refl refl;
           gear = prints (λ x. x.gear) refl gear_read;
           thrust = thrust_printed a.engine a.temperature (engine_of (nth_line d 1)) (nth_line d 16) (ap (λ (x : Draft). x.engine) same) (ap (λ (x : Draft). x.thrust) same) thrust_read;
           ctc4 = subst (λ (v : ℤ). Prints (field (nth_line d 16) 4) quantity.ctc4 v) (sym (ap (λ (x : Draft). x.thrust.ctc4) same) ∙ (temperature_is a.engine a.temperature).0) thrust_read.ctc4.prints;

@@ -17,7 +17,7 @@ use Rattle.aircraft.specs.Words.{configuration_word, configuration_row, first_na
 use Rattle.opf.specs.Faults.{or_else, first_of}
 use Rattle.opf.specs.Fields.{field}
 use Rattle.opf.specs.Numbers.{number_of}
-use Rattle.opf.specs.DataLines.{Fields, natural, integer, nth_line, engine_of, masses_of, configuration_of, configuration_lines, names, line_naming, row_of, row_from, came, new_fault, configuration_faults, thrust_of, descent_of, consumption_of, idle_of, faults_at, data_fault}
+use Rattle.opf.specs.DataLines.{Fields, counted, natural, nth_line, engine_of, masses_of, configuration_of, configuration_lines, names, line_naming, row_of, row_from, came, new_fault, configuration_faults, thrust_of, descent_of, consumption_of, idle_of, faults_at, data_fault}
 use Rattle.opf.specs.Files.{draft_of}
 use Rattle.opf.specs.Steps.{filled, rows_with, after_line}
 use Rattle.opf.specs.Quantities as quantity
@@ -49,7 +49,7 @@ at_line g ds fs j k e h = ap g (nth_more ds fs j k e h) ∙ cond_after g (eqb k 
 
 -- a line that is not there gives the same for every engine
 thrust_none : (e e' : EngineType) → thrust_of e [] ≡ thrust_of e' []
-unfolding natural integer number_of
+unfolding counted number_of
 thrust_none engine.Jet engine.Jet = refl
 thrust_none engine.Jet engine.Turboprop = refl
 thrust_none engine.Turboprop engine.Jet = refl
@@ -111,7 +111,7 @@ lines_inside ds fs k e inside =
     ∙ take_all 5 (drop 4 ds ++ (fs ∷ [])) fits
     ∙ ap (λ (xs : List Fields). xs ++ (fs ∷ [])) (sym (take_all 5 (drop 4 ds) room))
 
-abbrev rows_of : List Fields → List DraftRow
+abbrev rows_of : List Fields → List (Option DraftRow)
 rows_of xs =
     row_from (line_naming flaps.Cruise xs)
     ∷ row_from (line_naming flaps.InitialClimb xs)
@@ -121,7 +121,7 @@ rows_of xs =
     ∷ []
 
 -- the row that the line fills, and any other
-own_row : (xs : List Fields) (fs : Fields) (c : Configuration) → configuration_of fs ≡ Some c → is_some (line_naming c xs) ≡ false → row_from (line_naming c (xs ++ (fs ∷ []))) ≡ row_of fs
+own_row : (xs : List Fields) (fs : Fields) (c : Configuration) → configuration_of fs ≡ Some c → is_some (line_naming c xs) ≡ false → row_from (line_naming c (xs ++ (fs ∷ []))) ≡ Some (row_of fs)
 own_row xs fs c e new =
     let named : names c fs ≡ true = names_are fs c c e ∙ (bytes_eq-Decides (configuration_word c) (configuration_word c)).1 refl in
     ap row_from (naming_more c xs fs new ∙ cond-true (names c fs) (Some fs) None named)
@@ -129,10 +129,10 @@ own_row xs fs c e new =
 other_row : (xs : List Fields) (fs : Fields) (c d : Configuration) → configuration_of fs ≡ Some c → bytes_eq (configuration_word c) (configuration_word d) ≡ false → row_from (line_naming d (xs ++ (fs ∷ []))) ≡ row_from (line_naming d xs)
 other_row xs fs c d e f = ap row_from (naming_same d xs fs (names_are fs c d e ∙ f))
 
-five : {a b c d e a' b' c' d' e' : DraftRow} → a ≡ a' → b ≡ b' → c ≡ c' → d ≡ d' → e ≡ e' → ◌≡◌ {A = List DraftRow} (a ∷ b ∷ c ∷ d ∷ e ∷ []) (a' ∷ b' ∷ c' ∷ d' ∷ e' ∷ [])
+five : {a b c d e a' b' c' d' e' : Option DraftRow} → a ≡ a' → b ≡ b' → c ≡ c' → d ≡ d' → e ≡ e' → ◌≡◌ {A = List (Option DraftRow)} (a ∷ b ∷ c ∷ d ∷ e ∷ []) (a' ∷ b' ∷ c' ∷ d' ∷ e' ∷ [])
 five p q r s t = λ i. p i ∷ q i ∷ r i ∷ s i ∷ t i ∷ []
 
-rows_more : (xs : List Fields) (fs : Fields) (c : Configuration) → configuration_of fs ≡ Some c → is_some (line_naming c xs) ≡ false → rows_of (xs ++ (fs ∷ [])) ≡ set (rows_of xs) (configuration_row c) (row_of fs)
+rows_more : (xs : List Fields) (fs : Fields) (c : Configuration) → configuration_of fs ≡ Some c → is_some (line_naming c xs) ≡ false → rows_of (xs ++ (fs ∷ [])) ≡ set (rows_of xs) (configuration_row c) (Some (row_of fs))
 rows_more xs fs flaps.Cruise e new =
     five (own_row xs fs flaps.Cruise e new) (other_row xs fs flaps.Cruise flaps.InitialClimb e refl) (other_row xs fs flaps.Cruise flaps.TakeOff e refl) (other_row xs fs flaps.Cruise flaps.Approach e refl) (other_row xs fs flaps.Cruise flaps.Landing e refl)
 rows_more xs fs flaps.InitialClimb e new =
@@ -146,7 +146,7 @@ rows_more xs fs flaps.Landing e new =
 
 -- What the line is judged by.
 
-given_some : (o : Option Fields) → (row_from o).given ≡ is_some o
+given_some : (o : Option Fields) → is_some (row_from o) ≡ is_some o
 given_some None = refl
 given_some (Some fs) = refl
 

@@ -1,5 +1,5 @@
 -- The values of an aircraft record as a plain record, and the ranges that a plain record keeps once it is read.
-use Rattle.std.specs.Prelude.{◌≡◌, ◌≤◌, true, List, [], ◌∷◌, pos, negsuc, ◌≤ℤ◌, Ok, Err, Result, slice_index_or}
+use Rattle.std.specs.Prelude.{◌≡◌, ◌≤◌, List, [], ◌∷◌, pos, negsuc, ◌≤ℤ◌, Some, None, Ok, Err, Option, Result, IfSome, slice_index_or}
 use Rattle.refusal.specs.declared.fault.Fault.{Fault}
 use Rattle.aircraft.specs.declared.words.EngineType.{EngineType}
 use Rattle.aircraft.specs.declared.words.EngineType.TheVariants as engine
@@ -19,7 +19,6 @@ use Rattle.aircraft.specs.declared.draft.DraftThrust.{DraftThrust}
 use Rattle.aircraft.specs.declared.draft.DraftDescent.{DraftDescent}
 use Rattle.aircraft.specs.declared.draft.DraftConsumption.{DraftConsumption}
 use Rattle.aircraft.specs.declared.draft.DraftIdle.{DraftIdle}
-use Rattle.aircraft.specs.Drafts.{no_row}
 use Rattle.aircraft.specs.Values.{fuel_of}
 use Rattle.aircraft.specs.Words.{engine_type}
 
@@ -27,10 +26,16 @@ abbrev pub masses_values : Masses → DraftMasses
 masses_values m = record { reference = m.reference; minimum = m.minimum; maximum = m.maximum }
 
 abbrev pub row_values : Row → DraftRow
-row_values r = record { stall = r.stall; cd0 = r.cd0; cd2 = r.cd2; given = true }
+row_values r = record { stall = r.stall; cd0 = r.cd0; cd2 = r.cd2 }
 
-abbrev pub rows_values : Rows → List DraftRow
-rows_values r = row_values r.cruise ∷ row_values r.initial ∷ row_values r.takeoff ∷ row_values r.approach ∷ row_values r.landing ∷ []
+abbrev pub rows_values : Rows → List (Option DraftRow)
+rows_values r =
+    Some (row_values r.cruise)
+    ∷ Some (row_values r.initial)
+    ∷ Some (row_values r.takeoff)
+    ∷ Some (row_values r.approach)
+    ∷ Some (row_values r.landing)
+    ∷ []
 
 abbrev pub thrust_values : Engine → Temperature → DraftThrust
 thrust_values (kind.Jet c) t = record { ctc1 = c.ctc1; ctc2 = c.ctc2; ctc3 = pos c.ctc3; ctc4 = t.ctc4; ctc5 = t.ctc5 }
@@ -83,15 +88,19 @@ pub record RangedRow (r : DraftRow) : Type 0 where
   pub fastest : r.stall ≤ 250000
   pub parasitic : r.cd0 ≤ 47000000
   pub induced : r.cd2 ≤ 47000000
-  pub given : r.given ≡ true
 
-pub record RangedRows (rows : List DraftRow) : Type 0 where
-  pub cruise : RangedRow (slice_index_or rows 0 no_row)
-  pub initial : RangedRow (slice_index_or rows 1 no_row)
-  pub takeoff : RangedRow (slice_index_or rows 2 no_row)
-  pub approach : RangedRow (slice_index_or rows 3 no_row)
-  pub landing : RangedRow (slice_index_or rows 4 no_row)
-  pub clean : 100000 ≤ (slice_index_or rows 0 no_row).cd0
+-- the row has come, and is within its ranges
+abbrev pub GivenRow : Option DraftRow → Type 0
+GivenRow None = ⊥
+GivenRow (Some r) = RangedRow r
+
+pub record RangedRows (rows : List (Option DraftRow)) : Type 0 where
+  pub cruise : GivenRow (slice_index_or rows 0 None)
+  pub initial : GivenRow (slice_index_or rows 1 None)
+  pub takeoff : GivenRow (slice_index_or rows 2 None)
+  pub approach : GivenRow (slice_index_or rows 3 None)
+  pub landing : GivenRow (slice_index_or rows 4 None)
+  pub clean : IfSome (slice_index_or rows 0 None) (λ r. 100000 ≤ r.cd0)
 
 pub record RangedDescent (d : DraftDescent) : Type 0 where
   pub low : d.low ≤ 100000000

@@ -1,21 +1,20 @@
 -- The plain record after one more data line.
-use Rattle.std.specs.Prelude.{◌≡◌, ℕ, Bool, cond, ◌&&◌, List, Some, None, Ok, Err, Option, Result, ◌==◌, nat_le, slice_index_or, slice_set}
+use Rattle.std.specs.Prelude.{◌≡◌, ℕ, Bool, cond, ◌&&◌, List, is_some, Some, None, Ok, Err, Option, Result, ◌==◌, nat_le, slice_index_or, slice_set}
 use Rattle.refusal.specs.declared.fault.Fault.{Fault}
 use Rattle.aircraft.specs.declared.words.Configuration.{Configuration}
 use Rattle.aircraft.specs.declared.draft.Draft.{Draft}
 use Rattle.aircraft.specs.declared.draft.DraftRow.{DraftRow}
 use Rattle.aircraft.specs.Words.{configuration_row}
-use Rattle.aircraft.specs.Drafts.{no_row}
 use Rattle.opf.specs.DataLines.{Fields, natural, engine_of, masses_of, configuration_of, row_of, thrust_of, descent_of, consumption_of, idle_of}
 use Rattle.opf.specs.Quantities as quantity
 
 -- the configurations of which a row is filled
 abbrev pub filled : Draft → Configuration → Bool
-filled d c = (slice_index_or d.rows (configuration_row c) no_row).given
+filled d c = is_some (slice_index_or d.rows (configuration_row c) None)
 
-abbrev pub rows_with : List DraftRow → Option Configuration → DraftRow → List DraftRow
+abbrev pub rows_with : List (Option DraftRow) → Option Configuration → DraftRow → List (Option DraftRow)
 rows_with rows None row = rows
-rows_with rows (Some c) row = slice_set rows (configuration_row c) row
+rows_with rows (Some c) row = slice_set rows (configuration_row c) (Some row)
 
 abbrev pub after_line : ℕ → Draft → Fields → Draft
 after_line k d fs =

@@ -1,8 +1,8 @@
 // The aircraft record of a plain record that is read without a fault.
-ghost use Rattle.std.specs.Prelude.{◌≡◌, List};
+ghost use Rattle.std.specs.Prelude.{◌≡◌, List, Some};
 ghost use Rattle.aircraft.specs.Values.{fuel_of};
 ghost use Rattle.aircraft.specs.Words.{engine_type};
-ghost use Rattle.opf.specs.Records.{masses_values, row_values, rows_values, SameThrust, descent_values, consumption_values, idle_values, values_of, RangedMasses, RangedRow, RangedRows, RangedDescent, RangedTemperature, RangedFuel, RangedThrust, Ranged};
+ghost use Rattle.opf.specs.Records.{masses_values, row_values, rows_values, SameThrust, descent_values, consumption_values, idle_values, values_of, RangedMasses, GivenRow, RangedRows, RangedDescent, RangedTemperature, RangedFuel, RangedThrust, Ranged};
 
 use aircraft::draft::{
     Draft, DraftConsumption, DraftDescent, DraftIdle, DraftMasses, DraftRow, DraftThrust,
@@ -24,10 +24,11 @@ fn masses(m: DraftMasses) -> Masses
     }
 }
 
-fn row(d: DraftRow) -> Row
-    requires { RangedRow d }
-    ensures { row_values result ≡ d }
+fn row(d: Option<DraftRow>) -> Row
+    requires { GivenRow d }
+    ensures { Some (row_values result) ≡ d }
 {
+    let Some(d) = d else { unreachable!() };
     Row {
         stall: d.stall,
         cd0: d.cd0,
@@ -35,7 +36,7 @@ fn row(d: DraftRow) -> Row
     }
 }
 
-fn rows(d: &[DraftRow; 5]) -> Rows
+fn rows(d: &[Option<DraftRow>; 5]) -> Rows
     requires { RangedRows d.now }
     ensures { rows_values result ≡ d.now }
 {

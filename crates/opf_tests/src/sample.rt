@@ -64,7 +64,7 @@ pub(crate) fn file(
 pub(crate) fn fault(text: &[u8]) -> (u8, u32, u32) {
     match read(text) {
         Ok(_) => (0, 0, 0),
-        Err(f) => (f.number(), f.line(), f.field()),
+        Err(f) => (u8::from(f), f.line().unwrap_or(0), f.field().unwrap_or(0)),
     }
 }
 

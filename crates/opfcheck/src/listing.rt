@@ -3,7 +3,7 @@ ghost use Rattle.std.specs.Prelude.{Some};
 ghost use Rattle.opfcheck.specs.Listing.{fault_text, masses_text, frame_text, drag_text, row_text, rows_text, thrust_text, descent_text, fuel_text, power_text, listing_text};
 
 use aircraft::record::{Aircraft, Descent, Engine, Fuel, Masses, Row, Rows};
-use aircraft::words::Configuration;
+use aircraft::words::{Configuration, EngineType};
 use refusal::fault::Fault;
 use std::fmt;
 
@@ -16,9 +16,9 @@ impl fmt::Display for FaultLine {
     ghost output = { λ v. Some (fault_text v.fault) };
 
     fn fmt<W: fmt::Write>(&self, f: &mut fmt::Formatter<W>) -> fmt::Result {
-        let number = self.fault.number();
-        let line = self.fault.line();
-        let field = self.fault.field();
+        let number = u8::from(self.fault);
+        let line = self.fault.line().unwrap_or(0);
+        let field = self.fault.field().unwrap_or(0);
         let layer = self.fault.layer();
         write!(f, "no {number} {line} {field} {layer}\n")
     }
@@ -53,7 +53,7 @@ impl fmt::Display for FrameLines {
     ghost output = { λ v. Some (frame_text v.aircraft) };
 
     fn fmt<W: fmt::Write>(&self, f: &mut fmt::Formatter<W>) -> fmt::Result {
-        let engine = self.aircraft.engine.engine_type();
+        let engine = EngineType::from(&self.aircraft.engine);
         let masses = MassLines {
             masses: self.aircraft.masses,
         };

@@ -1,5 +1,5 @@
 -- The number, line, field and layer of each fault of a file, the word of each layer, and the number of each refusal.
-use Rattle.std.specs.Prelude.{ℕ, List, codes}
+use Rattle.std.specs.Prelude.{ℕ, List, ◌∷◌, ◌++◌, Some, None, Option, unwrap_or, codes, decimal}
 use Rattle.refusal.specs.declared.fault.Fault.{Fault}
 use Rattle.refusal.specs.declared.fault.Fault.TheVariants as fault
 use Rattle.refusal.specs.declared.fault.Layer.{Layer}
@@ -20,33 +20,45 @@ fault_number fault.NoEnd = 9
 fault_number (fault.AfterEnd n) = 9
 fault_number (fault.MassOrder n) = 10
 
+-- the line that it names
+abbrev pub named_line : Fault → Option ℕ
+named_line fault.FileSize = None
+named_line (fault.LineText n) = Some n
+named_line (fault.LineStart n) = Some n
+named_line (fault.DataLines n) = Some n
+named_line (fault.FieldCount n) = Some n
+named_line (fault.Word n f) = Some n
+named_line (fault.NumberForm n f) = Some n
+named_line (fault.Value n f) = Some n
+named_line fault.NoEnd = None
+named_line (fault.AfterEnd n) = Some n
+named_line (fault.MassOrder n) = Some n
+
+-- the field that it names
+abbrev pub named_field : Fault → Option ℕ
+named_field fault.FileSize = None
+named_field (fault.LineText n) = None
+named_field (fault.LineStart n) = None
+named_field (fault.DataLines n) = None
+named_field (fault.FieldCount n) = None
+named_field (fault.Word n f) = Some f
+named_field (fault.NumberForm n f) = Some f
+named_field (fault.Value n f) = Some f
+named_field fault.NoEnd = None
+named_field (fault.AfterEnd n) = None
+named_field (fault.MassOrder n) = None
+
 -- 0 where it names no line
 abbrev pub fault_line : Fault → ℕ
-fault_line fault.FileSize = 0
-fault_line (fault.LineText n) = n
-fault_line (fault.LineStart n) = n
-fault_line (fault.DataLines n) = n
-fault_line (fault.FieldCount n) = n
-fault_line (fault.Word n f) = n
-fault_line (fault.NumberForm n f) = n
-fault_line (fault.Value n f) = n
-fault_line fault.NoEnd = 0
-fault_line (fault.AfterEnd n) = n
-fault_line (fault.MassOrder n) = n
+fault_line f = unwrap_or (named_line f) 0
 
 -- 0 where it names no field
 abbrev pub fault_field : Fault → ℕ
-fault_field fault.FileSize = 0
-fault_field (fault.LineText n) = 0
-fault_field (fault.LineStart n) = 0
-fault_field (fault.DataLines n) = 0
-fault_field (fault.FieldCount n) = 0
-fault_field (fault.Word n f) = f
-fault_field (fault.NumberForm n f) = f
-fault_field (fault.Value n f) = f
-fault_field fault.NoEnd = 0
-fault_field (fault.AfterEnd n) = 0
-fault_field (fault.MassOrder n) = 0
+fault_field f = unwrap_or (named_field f) 0
+
+-- number, line and field, as printed
+abbrev pub fault_figures : Fault → List ℕ
+fault_figures f = decimal (fault_number f) ++ (32 ∷ (decimal (fault_line f) ++ (32 ∷ decimal (fault_field f))))
 
 abbrev pub fault_layer : Fault → Layer
 fault_layer fault.FileSize = layer.Text

@@ -1,16 +1,16 @@
 // The numbers and words by which faults and refusals are known outside.
-ghost use Rattle.std.specs.Prelude.{◌≡◌, Some};
-ghost use Rattle.refusal.specs.Numbers.{fault_number, fault_line, fault_field, fault_layer, layer_word, refusal_number};
+ghost use Rattle.std.specs.Prelude.{◌≡◌, Some, decimal};
+ghost use Rattle.refusal.specs.Numbers.{fault_number, named_line, named_field, fault_figures, fault_layer, layer_word, refusal_number};
 
 use crate::fault::{Fault, Layer};
 use crate::refusal::Refusal;
 use std::fmt;
 
-impl Fault {
-    pub fn number(self) -> u8
-        ensures { result ≡ fault_number self }
-    {
-        match self {
+impl From<Fault> for u8 {
+    ghost from_gives = { λ f n. n ≡ fault_number f };
+
+    fn from(fault: Fault) -> u8 {
+        match fault {
             Fault::FileSize => 1,
             Fault::LineText { .. } => 2,
             Fault::LineStart { .. } => 3,
@@ -23,33 +23,36 @@ impl Fault {
             Fault::MassOrder { .. } => 10,
         }
     }
+}
 
-    // The line that it names, or 0.
-    pub fn line(self) -> u32
-        ensures { result ≡ fault_line self }
+impl Fault {
+    // The line that it names.
+    pub fn line(self) -> Option<u32>
+        ensures { result ≡ named_line self }
     {
         match self {
-            Fault::FileSize | Fault::NoEnd => 0,
+            Fault::FileSize | Fault::NoEnd => None,
             Fault::LineText { line }
             | Fault::LineStart { line }
             | Fault::DataLines { line }
             | Fault::FieldCount { line }
+            | Fault::Word { line, .. }
+            | Fault::NumberForm { line, .. }
+            | Fault::Value { line, .. }
             | Fault::AfterEnd { line }
-            | Fault::MassOrder { line } => line,
-            Fault::Word { line, .. } | Fault::NumberForm { line, .. } | Fault::Value { line, .. } =>
-                line,
+            | Fault::MassOrder { line } => Some(line),
         }
     }
 
-    // The field that it names, or 0.
-    pub fn field(self) -> u32
-        ensures { result ≡ fault_field self }
+    // The field that it names.
+    pub fn field(self) -> Option<u32>
+        ensures { result ≡ named_field self }
     {
         match self {
             Fault::Word { field, .. }
             | Fault::NumberForm { field, .. }
-            | Fault::Value { field, .. } => field,
-            _ => 0,
+            | Fault::Value { field, .. } => Some(field),
+            _ => None,
         }
     }
 
@@ -70,6 +73,18 @@ impl Fault {
     }
 }
 
+// Number, line and field; 0 where it names none.
+impl fmt::Display for Fault {
+    ghost output = { λ f. Some (fault_figures f) };
+
+    fn fmt<W: fmt::Write>(&self, f: &mut fmt::Formatter<W>) -> fmt::Result {
+        let number = u8::from(*self);
+        let line = self.line().unwrap_or(0);
+        let field = self.field().unwrap_or(0);
+        write!(f, "{number} {line} {field}")
+    }
+}
+
 impl fmt::Display for Layer {
     ghost output = { λ l. Some (layer_word l) };
 
@@ -83,11 +98,11 @@ impl fmt::Display for Layer {
     }
 }
 
-impl Refusal {
-    pub fn number(self) -> u8
-        ensures { result ≡ refusal_number self }
-    {
-        match self {
+impl From<Refusal> for u8 {
+    ghost from_gives = { λ r n. n ≡ refusal_number r };
+
+    fn from(refusal: Refusal) -> u8 {
+        match refusal {
             Refusal::BenchPair => 11,
             Refusal::TooHigh => 12,
             Refusal::Grams => 13,
@@ -105,5 +120,14 @@ impl Refusal {
             Refusal::FuelShort => 25,
             Refusal::Script => 26,
         }
+    }
+}
+
+impl fmt::Display for Refusal {
+    ghost output = { λ r. Some (decimal (refusal_number r)) };
+
+    fn fmt<W: fmt::Write>(&self, f: &mut fmt::Formatter<W>) -> fmt::Result {
+        let number = u8::from(*self);
+        write!(f, "{number}")
     }
 }

@@ -108,10 +108,7 @@ impl<'a> fmt::Display for Answer<'a> {
                 let figures = Figures { reading };
                 write!(f, "touchdown {figures}\n")
             }
-            Answer::No(refusal) => {
-                let number = refusal.number();
-                write!(f, "no {number}\n")
-            }
+            Answer::No(refusal) => { write!(f, "no {refusal}\n") }
         }
     }
 }
