@@ -9,7 +9,9 @@ use Rattle.leg.specs.declared.phase.Phase.{Phase}
 use Rattle.leg.specs.declared.phase.Phase.TheVariants.{Climb, Cruise, Descent}
 use Rattle.leg.specs.Nearness.{leg_rate, BurnNear, BurnRises, BurnGains}
 use Rattle.flight.specs.declared.flight.Flight.{Flight}
-use Rattle.flight.specs.Calls.{Setting, Start, starting_reserve, NamedCall, Answer, Event}
+use Rattle.flight.specs.declared.start.Start.{Start}
+use Rattle.flight.specs.declared.call.Call.{Call}
+use Rattle.flight.specs.Calls.{Setting, starting_reserve, Answer, Event}
 use Rattle.flight.specs.Book.{told, book_mass, drift_rate, tolerance}
 use Rattle.flight.specs.Accounts.{reading_of, outcome, answered, left_by}
 use Rattle.flight.specs.Runs.{account, FlightOf, setting, Made, Run, started, then}
@@ -27,7 +29,7 @@ module _ (near : BurnNear) (rises : BurnRises) (gains : BurnGains) {K D : Type 0
     same_setting : (f : Flight K D) → FlightOf aircraft kind day f → setting engine air aircraft kind day ≡ setting engine air f.aircraft f.kind f.day
     same_setting f o = let a = o.aircraft_is in let k = o.kind_is in let d = o.day_is in sym (rw (a, k, d))
 
-    one_more : (es : List Event) (f g : Flight K D) (c : NamedCall) (r : Result (Answer c) Refusal) → Made engine air f c r g → Reached es f → Reached (made_of c r es) g
+    one_more : (es : List Event) (f g : Flight K D) (c : Call) (r : Result (Answer c) Refusal) → Made engine air f c r g → Reached es f → Reached (made_of c r es) g
     one_more es f g c r made before =
         let w = setting engine air aircraft kind day in
         let here = setting engine air f.aircraft f.kind f.day in

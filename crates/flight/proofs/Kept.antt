@@ -9,7 +9,7 @@ use Rattle.air.specs.Day.{AirLaws}
 use Rattle.engine.specs.Meaning.{KindLaws}
 use Rattle.leg.specs.declared.flown.Flown.{Flown}
 use Rattle.leg.specs.declared.phase.Phase.{Phase}
-use Rattle.leg.specs.Requests.{Figures}
+use Rattle.leg.specs.declared.figures.Figures.{Figures}
 use Rattle.leg.specs.Configurations.{configuration_of, drag_pair}
 use Rattle.leg.specs.Legs.{flown_with}
 use Rattle.leg.specs.Exact.{exact_burn}
@@ -17,7 +17,10 @@ use Rattle.leg.proofs.Answered.{drag_pair_bounds, accepted as accepted_leg_at}
 use Rattle.leg.specs.Nearness.{leg_rate, BurnNear, BurnRises, BurnGains}
 use Rattle.flight.specs.declared.status.State.{State}
 use Rattle.flight.specs.declared.states.Call.TheVariants as call
-use Rattle.flight.specs.Calls.{Setting, Start, in_mg, starting_mass, starting_reserve, NamedCall, Leg, Uplift, Jettison, Touchdown, Answer, Event}
+use Rattle.flight.specs.declared.start.Start.{Start}
+use Rattle.flight.specs.declared.call.Call.{Call}
+use Rattle.flight.specs.declared.call.Call.TheVariants.{Leg, Uplift, Jettison, Touchdown}
+use Rattle.flight.specs.Calls.{Setting, in_mg, starting_mass, starting_reserve, Answer, Event}
 use Rattle.flight.specs.Book.{told, by_phase, book_burn, book_mass, allowance, allowed}
 use Rattle.flight.specs.States.{next_state}
 use Rattle.flight.specs.Accounts.{Account, mass_of, changed, unless, and_then, start_outcome, start_grams, first_account, Done, Outcome, answered, left_by, silent, some_grams, outcome}
@@ -36,7 +39,7 @@ pub record InStep (rate : Phase → ℕ) (w : Setting) (s : Start) (es : List Ev
   pub reserved : l.reserve ≡ starting_reserve s
   pub balance : starting_mass s + summed put_in es ≡ mass_of l + summed thrown_out es + summed burned_by es
 
-abbrev pub made_of : (c : NamedCall) → Result (Answer c) Refusal → List Event → List Event
+abbrev pub made_of : (c : Call) → Result (Answer c) Refusal → List Event → List Event
 made_of c r es = record { call = c; answer = r } ∷ es
 
 -- the same nearness, its parts said otherwise
@@ -53,7 +56,7 @@ silent_left P left d q h =
     let is : e ≡ d = cc in
     subst P is h
 
-refused_sums : (c : NamedCall) (e : Refusal) → (put_in c (Err e) ≡ 0) × (thrown_out c (Err e) ≡ 0) × (burned_by c (Err e) ≡ 0)
+refused_sums : (c : Call) (e : Refusal) → (put_in c (Err e) ≡ 0) × (thrown_out c (Err e) ≡ 0) × (burned_by c (Err e) ≡ 0)
 refused_sums (Leg n x) e = (refl, refl, refl)
 refused_sums (Uplift g) e = (refl, refl, refl)
 refused_sums (Jettison g) e = (refl, refl, refl)
@@ -132,7 +135,7 @@ module _ (near : BurnNear) (rises : BurnRises) (gains : BurnGains) (rate : Phase
       subst (InStep rate w s (made_of (Leg n x) (Ok d.answer) es)) (sym f.left) after
 
   -- a call that leaves a flight with other fuel in another state, and no answer
-  module _ (c : NamedCall) (answer : Answer c) (next : State) (fuel : ℕ) where
+  module _ (c : Call) (answer : Answer c) (next : State) (fuel : ℕ) where
     with_fuel : (close : Near (nat (l.zero_fuel + fuel)) (book_mass w s (map told (made_of c (Ok answer) es))) (nat (allowed rate (map told es)))) → allowed rate (map told (made_of c (Ok answer) es)) ≡ allowed rate (map told es) → l.zero_fuel + fuel ≤ 9 * 10 ^ 11 → starting_mass s + summed put_in (made_of c (Ok answer) es) ≡ (l.zero_fuel + fuel) + summed thrown_out (made_of c (Ok answer) es) + summed burned_by (made_of c (Ok answer) es) → InStep rate w s (made_of c (Ok answer) es) (changed l next fuel l.seconds)
     with_fuel close same heavy balance =
         record {
@@ -186,14 +189,14 @@ module _ (near : BurnNear) (rises : BurnRises) (gains : BurnGains) (rate : Phase
       let after = with_fuel Touchdown tt p1.0 l.fuel before.close (omega arith) before.heavy (omega (arith, before.balance)) in
       silent_left (λ e. InStep rate w s (made_of Touchdown (Ok e.answer) es) e.left) (left p1.0) d p1.2 after
 
-  accepted : (c : NamedCall) (d : Done (Answer c)) → outcome w l c ≡ Ok d → InStep rate w s (made_of c (Ok d.answer) es) d.left
+  accepted : (c : Call) (d : Done (Answer c)) → outcome w l c ≡ Ok d → InStep rate w s (made_of c (Ok d.answer) es) d.left
   accepted (Leg n x) d q = accepted_leg n x d q
   accepted (Uplift g) d q = accepted_uplift g d q
   accepted (Jettison g) d q = accepted_jettison g d q
   accepted Touchdown d q = accepted_touchdown d q
 
   -- a refused call leaves the account and adds nothing to the chain's sums
-  refused : (c : NamedCall) (e : Refusal) → InStep rate w s (made_of c (Err e) es) l
+  refused : (c : Call) (e : Refusal) → InStep rate w s (made_of c (Err e) es) l
   refused c e =
       let nothing = refused_sums c e in
       record {
@@ -207,9 +210,9 @@ module _ (near : BurnNear) (rises : BurnRises) (gains : BurnGains) (rate : Phase
         balance = omega (arith, before.balance, nothing.0, nothing.1, nothing.2);
       }
 
-  kept_by : (c : NamedCall) (o : Outcome (Answer c)) → outcome w l c ≡ o → InStep rate w s (made_of c (answered o) es) (left_by l o)
+  kept_by : (c : Call) (o : Outcome (Answer c)) → outcome w l c ≡ o → InStep rate w s (made_of c (answered o) es) (left_by l o)
   kept_by c (Ok d) q = accepted c d q
   kept_by c (Err e) q = refused c e
 
-  pub kept : (c : NamedCall) → InStep rate w s (made_of c (answered (outcome w l c)) es) (left_by l (outcome w l c))
+  pub kept : (c : Call) → InStep rate w s (made_of c (answered (outcome w l c)) es) (left_by l (outcome w l c))
   kept c = kept_by c (outcome w l c) refl

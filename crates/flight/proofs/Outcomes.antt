@@ -6,12 +6,14 @@ use Rattle.refusal.specs.declared.refusal.Refusal.TheVariants as refusal
 use Rattle.leg.specs.declared.flown.Flown.{Flown}
 use Rattle.leg.specs.declared.phase.Phase.{Phase}
 use Rattle.leg.specs.Phases.{phase_numbered}
-use Rattle.leg.specs.Requests.{Figures, InRange, taken_figures}
+use Rattle.leg.specs.declared.figures.Figures.{Figures}
+use Rattle.leg.specs.Requests.{InRange, taken_figures}
 use Rattle.leg.specs.Legs.{leg_answer}
 use Rattle.leg.proofs.Answered.{taken_is}
 use Rattle.flight.specs.declared.status.State.{State}
 use Rattle.flight.specs.declared.states.Call.TheVariants as call
-use Rattle.flight.specs.Calls.{Setting, Leg}
+use Rattle.flight.specs.declared.call.Call.TheVariants.{Leg}
+use Rattle.flight.specs.Calls.{Setting}
 use Rattle.flight.specs.States.{next_state}
 use Rattle.flight.specs.Accounts.{Account, mass_of, changed, unless, and_then, most_seconds, Done, Outcome, leg_fuelled, leg_taken, outcome}
 

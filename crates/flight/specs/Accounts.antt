@@ -11,7 +11,8 @@ use Rattle.aircraft.specs.declared.record.Aircraft.{Aircraft}
 use Rattle.leg.specs.declared.flown.Flown.{Flown}
 use Rattle.leg.specs.declared.phase.Phase.{Phase}
 use Rattle.leg.specs.Phases.{phase_numbered}
-use Rattle.leg.specs.Requests.{Figures, taken_figures, from_to}
+use Rattle.leg.specs.declared.figures.Figures.{Figures}
+use Rattle.leg.specs.Requests.{taken_figures, from_to}
 use Rattle.leg.specs.Legs.{leg_answer}
 use Rattle.flight.specs.declared.reading.Reading.{Reading}
 use Rattle.flight.specs.declared.status.State.{State}
@@ -19,7 +20,10 @@ use Rattle.flight.specs.declared.status.State.TheVariants.{Stand}
 use Rattle.flight.specs.declared.status.Status.{Status}
 use Rattle.flight.specs.declared.status.Step.{Step}
 use Rattle.flight.specs.declared.states.Call.TheVariants as call
-use Rattle.flight.specs.Calls.{Setting, Start, in_mg, reserve_or_default, starting_mass, starting_reserve, NamedCall, Leg, Uplift, Jettison, Touchdown, Answer}
+use Rattle.flight.specs.declared.start.Start.{Start}
+use Rattle.flight.specs.declared.call.Call.{Call}
+use Rattle.flight.specs.declared.call.Call.TheVariants.{Leg, Uplift, Jettison, Touchdown}
+use Rattle.flight.specs.Calls.{Setting, in_mg, reserve_or_default, starting_mass, starting_reserve, Answer}
 use Rattle.flight.specs.States.{next_state}
 
 pub record Account : Type 0 where
@@ -127,7 +131,7 @@ jettison_outcome l grams =
 abbrev pub touchdown_outcome : Account → Outcome (Unit {0})
 touchdown_outcome l = and_then (next_state l.state call.Touchdown) (λ next. silent (changed l next l.fuel l.seconds))
 
-abbrev pub outcome : Setting → Account → (c : NamedCall) → Outcome (Answer c)
+abbrev pub outcome : Setting → Account → (c : Call) → Outcome (Answer c)
 outcome w l (Leg n x) = leg_outcome w l n x
 outcome w l (Uplift grams) = uplift_outcome w.aircraft l grams
 outcome w l (Jettison grams) = jettison_outcome l grams

@@ -7,13 +7,16 @@ use Rattle.refusal.specs.declared.refusal.Refusal.{Refusal}
 use Rattle.exact.specs.Rational.{ℚ, nat, ◌+ℚ◌, ◌-ℚ◌}
 use Rattle.leg.specs.declared.phase.Phase.{Phase}
 use Rattle.leg.specs.Phases.{phase_numbered}
-use Rattle.leg.specs.Requests.{Figures}
+use Rattle.leg.specs.declared.figures.Figures.{Figures}
 use Rattle.leg.specs.Configurations.{configuration_of}
 use Rattle.leg.specs.Exact.{exact_burn}
-use Rattle.flight.specs.Calls.{Setting, Start, in_mg, starting_mass, NamedCall, Leg, Uplift, Jettison, Touchdown, Event}
+use Rattle.flight.specs.declared.start.Start.{Start}
+use Rattle.flight.specs.declared.call.Call.{Call}
+use Rattle.flight.specs.declared.call.Call.TheVariants.{Leg, Uplift, Jettison, Touchdown}
+use Rattle.flight.specs.Calls.{Setting, in_mg, starting_mass, Event}
 
 pub record Entry : Type 0 where
-  pub call : NamedCall
+  pub call : Call
   pub accepted : Bool
 
 abbrev pub is_accepted : {A : Type 0} → Result A Refusal → Bool
@@ -35,7 +38,7 @@ book_burn w n x mass =
     by_phase (phase_numbered n) (nat 0) (λ p. exact_burn w.aircraft w.engine w.air p (configuration_of w.aircraft p x) x mass)
 
 -- the book's mass after an accepted call
-abbrev pub book_after : Setting → NamedCall → ℚ → ℚ
+abbrev pub book_after : Setting → Call → ℚ → ℚ
 book_after w (Leg n x) mass = mass -ℚ book_burn w n x mass
 book_after w (Uplift grams) mass = mass +ℚ nat (in_mg grams)
 book_after w (Jettison grams) mass = mass -ℚ nat (in_mg grams)
@@ -50,7 +53,7 @@ abbrev pub book_fuel : Setting → Start → List Entry → ℚ
 book_fuel w s es = book_mass w s es -ℚ nat (in_mg s.zero_fuel)
 
 -- what an accepted call adds to the tolerance, at a rate in mg a second for each phase
-abbrev pub allowance : (rate : Phase → ℕ) → NamedCall → ℕ
+abbrev pub allowance : (rate : Phase → ℕ) → Call → ℕ
 allowance rate (Leg n x) = by_phase (phase_numbered n) 0 (λ p. rate p * x.seconds)
 allowance rate (Uplift grams) = 0
 allowance rate (Jettison grams) = 0

@@ -1,7 +1,5 @@
 -- What a caller names and what happened: a start, the later calls, and the answers to them.
 --   Setting        the aircraft, the meaning of its engine kind and the air of the day
---   Start          the figures of a start
---   NamedCall      a later call with what it names
 --   Answer         what a call answers where it is accepted
 --   Event          a call that was made, with its answer or refusal
 use Rattle.std.specs.Prelude.{ℕ, ◌+◌, ◌*◌, Some, None, Option, Result}
@@ -10,18 +8,14 @@ use Rattle.aircraft.specs.declared.record.Aircraft.{Aircraft}
 use Rattle.air.specs.Day.{Air}
 use Rattle.engine.specs.Meaning.{KindMeaning}
 use Rattle.leg.specs.declared.flown.Flown.{Flown}
-use Rattle.leg.specs.Requests.{Figures}
+use Rattle.flight.specs.declared.start.Start.{Start}
+use Rattle.flight.specs.declared.call.Call.{Call}
+use Rattle.flight.specs.declared.call.Call.TheVariants.{Leg, Uplift, Jettison, Touchdown}
 
 pub record Setting : Type 0 where
   pub aircraft : Aircraft
   pub engine : KindMeaning
   pub air : Air
-
--- in grams
-pub record Start : Type 0 where
-  pub zero_fuel : ℕ
-  pub fuel : ℕ
-  pub reserve : Option ℕ
 
 -- a figure in grams, counted in mg
 abbrev pub in_mg : (grams : ℕ) → ℕ
@@ -39,19 +33,12 @@ starting_mass s = in_mg s.zero_fuel + in_mg s.fuel
 abbrev pub starting_reserve : Start → ℕ
 starting_reserve s = in_mg (reserve_or_default s.reserve)
 
--- a leg names a phase by its number, uplift and jettison name grams
-pub data NamedCall : Type 0 where
-  Leg : (phase : ℕ) → Figures → NamedCall
-  Uplift : (grams : ℕ) → NamedCall
-  Jettison : (grams : ℕ) → NamedCall
-  Touchdown : NamedCall
-
-abbrev pub Answer : NamedCall → Type 0
+abbrev pub Answer : Call → Type 0
 Answer (Leg n x) = Flown
 Answer (Uplift g) = Unit {0}
 Answer (Jettison g) = Unit {0}
 Answer Touchdown = Unit {0}
 
 pub record Event : Type 0 where
-  pub call : NamedCall
+  pub call : Call
   pub answer : Result (Answer call) Refusal

@@ -7,33 +7,36 @@ use Rattle.air.specs.Day.{Air}
 use Rattle.engine.specs.Meaning.{KindMeaning}
 use Rattle.flight.specs.declared.flight.Flight.{Flight}
 use Rattle.flight.specs.declared.reading.Reading.{Reading}
-use Rattle.flight.specs.Calls.{Setting, Start, in_mg, starting_mass, starting_reserve, NamedCall, Leg, Uplift, Jettison, Touchdown, Answer, Event}
+use Rattle.flight.specs.declared.start.Start.{Start}
+use Rattle.flight.specs.declared.call.Call.{Call}
+use Rattle.flight.specs.declared.call.Call.TheVariants.{Leg, Uplift, Jettison, Touchdown}
+use Rattle.flight.specs.Calls.{Setting, in_mg, starting_mass, starting_reserve, Answer, Event}
 use Rattle.flight.specs.Book.{told, book_mass, book_fuel, tolerance}
 use Rattle.flight.specs.Runs.{setting, Run}
 
 -- fuel in mg that an accepted call put in, threw out or burned, the burn as it was answered
-abbrev pub put_in : (c : NamedCall) → Result (Answer c) Refusal → ℕ
+abbrev pub put_in : (c : Call) → Result (Answer c) Refusal → ℕ
 put_in (Leg n x) r = 0
 put_in (Uplift grams) (Ok a) = in_mg grams
 put_in (Uplift grams) (Err e) = 0
 put_in (Jettison grams) r = 0
 put_in Touchdown r = 0
 
-abbrev pub thrown_out : (c : NamedCall) → Result (Answer c) Refusal → ℕ
+abbrev pub thrown_out : (c : Call) → Result (Answer c) Refusal → ℕ
 thrown_out (Leg n x) r = 0
 thrown_out (Uplift grams) r = 0
 thrown_out (Jettison grams) (Ok a) = in_mg grams
 thrown_out (Jettison grams) (Err e) = 0
 thrown_out Touchdown r = 0
 
-abbrev pub burned_by : (c : NamedCall) → Result (Answer c) Refusal → ℕ
+abbrev pub burned_by : (c : Call) → Result (Answer c) Refusal → ℕ
 burned_by (Leg n x) (Ok a) = a.burn
 burned_by (Leg n x) (Err e) = 0
 burned_by (Uplift grams) r = 0
 burned_by (Jettison grams) r = 0
 burned_by Touchdown r = 0
 
-abbrev pub summed : ((c : NamedCall) → Result (Answer c) Refusal → ℕ) → List Event → ℕ
+abbrev pub summed : ((c : Call) → Result (Answer c) Refusal → ℕ) → List Event → ℕ
 summed of_call [] = 0
 summed of_call (e ∷ es) = of_call e.call e.answer + summed of_call es
 

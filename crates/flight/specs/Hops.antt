@@ -1,8 +1,9 @@
 -- The chain of a hop, and what is claimed of it.
 use Rattle.std.specs.Prelude.{ℕ, [], ◌∷◌, None}
-use Rattle.leg.specs.Requests.{Figures}
+use Rattle.leg.specs.declared.figures.Figures.{Figures}
 use Rattle.flight.specs.declared.hop.Hop.{Hop}
-use Rattle.flight.specs.Calls.{Setting, Leg, Uplift, Touchdown}
+use Rattle.flight.specs.declared.call.Call.TheVariants.{Leg, Uplift, Touchdown}
+use Rattle.flight.specs.Calls.{Setting}
 use Rattle.flight.specs.Claims.{Claims}
 
 abbrev pub HopClaims : Setting → (zero_fuel grams : ℕ) → Figures → Hop → Type 0

@@ -7,7 +7,9 @@ use Rattle.aircraft.specs.declared.record.Aircraft.{Aircraft}
 use Rattle.air.specs.Day.{Air}
 use Rattle.engine.specs.Meaning.{KindMeaning}
 use Rattle.flight.specs.declared.flight.Flight.{Flight}
-use Rattle.flight.specs.Calls.{Setting, Start, NamedCall, Answer, Event}
+use Rattle.flight.specs.declared.start.Start.{Start}
+use Rattle.flight.specs.declared.call.Call.{Call}
+use Rattle.flight.specs.Calls.{Setting, Answer, Event}
 use Rattle.flight.specs.Accounts.{Account, account_of, start_outcome, Outcome, outcome, answered, left_by}
 
 module _ {K D : Type 0} where
@@ -32,11 +34,11 @@ module _ {K D : Type 0} (engine : K → KindMeaning) (air : D → Air) where
   abbrev pub setting : Aircraft → K → D → Setting
   setting aircraft kind day = record { aircraft = aircraft; engine = engine kind; air = air day }
 
-  abbrev pub flight_outcome : Flight K D → (c : NamedCall) → Outcome (Answer c)
+  abbrev pub flight_outcome : Flight K D → (c : Call) → Outcome (Answer c)
   flight_outcome f c = outcome (setting f.aircraft f.kind f.day) (account f) c
 
   -- on the flight f the call c was answered by r, and left the flight g
-  pub record Made (f : Flight K D) (c : NamedCall) (r : Result (Answer c) Refusal) (g : Flight K D) : Type 0 where
+  pub record Made (f : Flight K D) (c : Call) (r : Result (Answer c) Refusal) (g : Flight K D) : Type 0 where
     pub answer : r ≡ answered (flight_outcome f c)
     pub left : account g ≡ left_by (account f) (flight_outcome f c)
     pub same : FlightOf f.aircraft f.kind f.day g
@@ -44,4 +46,4 @@ module _ {K D : Type 0} (engine : K → KindMeaning) (air : D → Air) where
   -- the latest event first
   pub data Run (aircraft : Aircraft) (kind : K) (day : D) (s : Start) : List Event → Flight K D → Type 0 where
     started : {f : Flight K D} → Started aircraft kind day s (Ok f) → Run aircraft kind day s [] f
-    then : {f g : Flight K D} {es : List Event} {c : NamedCall} {r : Result (Answer c) Refusal} → Run aircraft kind day s es f → Made f c r g → Run aircraft kind day s (record { call = c; answer = r } ∷ es) g
+    then : {f g : Flight K D} {es : List Event} {c : Call} {r : Result (Answer c) Refusal} → Run aircraft kind day s es f → Made f c r g → Run aircraft kind day s (record { call = c; answer = r } ∷ es) g

@@ -1,36 +1,31 @@
 // The calls of a flight.
 ghost use Rattle.std.specs.Prelude.{◌≡◌};
-ghost use Rattle.flight.specs.Calls.{Leg, Uplift, Jettison, Touchdown};
+ghost use Rattle.flight.specs.declared.call.Call.TheVariants.{Leg, Uplift, Jettison, Touchdown};
 ghost use Rattle.flight.specs.Accounts.{account_of, leg_outcome, step_done, reading_of};
 ghost use Rattle.flight.specs.Runs.{account, setting, Started, Made};
 ghost use Rattle.flight.specs.Claims.{KeepsToTheBook};
 
 use crate::flight::Flight;
 use crate::reading::Reading;
+use crate::start::Start;
 use crate::states::{Call, next};
 use crate::status::{Status, Step};
 use crate::steps::{begin, flown, jettisoned, landed, uplifted};
 use air::day::Day;
 use aircraft::record::Aircraft;
 use engine::kind::Kind;
+use leg::figures::Figures;
 use leg::flown::Flown;
 use leg::phase::Phase;
 use leg::request::Request;
 use refusal::refusal::Refusal;
 
 impl<K: Kind + Copy, D: Day + Copy> Flight<K, D> {
-    // A flight on stand. Figures in grams; an absent reserve counts as none.
-    pub fn start(
-        aircraft: Aircraft,
-        kind: K,
-        day: D,
-        zero_fuel: u64,
-        fuel: u64,
-        reserve: Option<u64>,
-    ) -> Result<Flight<K, D>, Refusal>
-        ensures { Started aircraft kind day (record { zero_fuel = zero_fuel; fuel = fuel; reserve = reserve }) result }
+    // A flight on stand.
+    pub fn start(aircraft: Aircraft, kind: K, day: D, start: Start) -> Result<Flight<K, D>, Refusal>
+        ensures { Started aircraft kind day start result }
     {
-        let status = begin(&aircraft, zero_fuel, fuel, reserve)?;
+        let status = begin(&aircraft, start)?;
         Ok(Flight {
             aircraft,
             kind,
@@ -46,16 +41,13 @@ impl<K: Kind + Drop, D: Day + Drop> Flight<K, D> {
         &self,
         status: Status,
         phase: u64,
-        altitude: u64,
-        speed: u64,
-        calibrated: u64,
-        seconds: u64,
+        figures: Figures,
     ) -> Result<Step, Refusal>
-        ensures { step_done result ≡ leg_outcome (setting K.engine D.air self.now.aircraft self.now.kind self.now.day) (account_of status) phase (record { altitude = altitude; speed = speed; calibrated = calibrated; seconds = seconds }) }
+        ensures { step_done result ≡ leg_outcome (setting K.engine D.air self.now.aircraft self.now.kind self.now.day) (account_of status) phase figures }
     {
         let phase = Phase::numbered(phase)?;
         let state = next(status.state, Call::Leg(phase))?;
-        let request = Request::new(&self.aircraft, altitude, speed, calibrated, seconds)?;
+        let request = Request::new(&self.aircraft, figures)?;
         flown(
             &self.aircraft,
             &self.kind,
@@ -67,18 +59,11 @@ impl<K: Kind + Drop, D: Day + Drop> Flight<K, D> {
         )
     }
 
-    // Altitude in ft, true airspeed in 0.1 kt, calibrated airspeed in kt.
-    pub fn leg(
-        &mut self,
-        phase: u64,
-        altitude: u64,
-        speed: u64,
-        calibrated: u64,
-        seconds: u64,
-    ) -> Result<Flown, Refusal>
-        ensures { Made K.engine D.air self.old (Leg phase (record { altitude = altitude; speed = speed; calibrated = calibrated; seconds = seconds })) result self.new }
+    // A leg in the phase that a number names.
+    pub fn leg(&mut self, phase: u64, figures: Figures) -> Result<Flown, Refusal>
+        ensures { Made K.engine D.air self.old (Leg phase figures) result self.new }
     {
-        let step = self.legged(self.status, phase, altitude, speed, calibrated, seconds)?;
+        let step = self.legged(self.status, phase, figures)?;
         self.status = step.left;
         Ok(step.flown)
     }

@@ -5,9 +5,11 @@ ghost use Rattle.flight.specs.Hops.{HopClaims};
 
 use crate::flight::Flight;
 use crate::reading::Reading;
+use crate::start::Start;
 use air::day::Day;
 use aircraft::record::Aircraft;
 use engine::kind::Kind;
+use leg::figures::Figures;
 use leg::flown::Flown;
 use refusal::refusal::Refusal;
 
@@ -27,16 +29,22 @@ pub fn fly_hop<K: Kind + Copy, D: Day + Copy>(
     day: D,
     zero_fuel: u64,
     uplift: u64,
-    altitude: u64,
-    speed: u64,
-    calibrated: u64,
-    seconds: u64,
+    figures: Figures,
 ) -> Result<Hop, Refusal>
-    ensures { IfOk result (HopClaims (setting K.Kind.engine D.Day.air aircraft kind day) zero_fuel uplift (record { altitude = altitude; speed = speed; calibrated = calibrated; seconds = seconds })) }
+    ensures { IfOk result (HopClaims (setting K.Kind.engine D.Day.air aircraft kind day) zero_fuel uplift figures) }
 {
-    let mut flight = Flight::start(aircraft, kind, day, zero_fuel, 0, None)?;
+    let mut flight = Flight::start(
+        aircraft,
+        kind,
+        day,
+        Start {
+            zero_fuel,
+            fuel: 0,
+            reserve: None,
+        },
+    )?;
     let uplifted = flight.uplift(uplift);
-    let flown = flight.leg(1, altitude, speed, calibrated, seconds);
+    let flown = flight.leg(1, figures);
     let landed = flight.touchdown();
     Ok(Hop {
         uplifted,

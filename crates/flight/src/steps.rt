@@ -5,6 +5,7 @@ ghost use Rattle.leg.specs.Requests.{figures_of};
 ghost use Rattle.flight.specs.Calls.{in_mg, reserve_or_default};
 ghost use Rattle.flight.specs.Accounts.{account_of, changed, start_outcome, leg_taken, leg_fuelled, uplift_outcome, jettison_outcome, touchdown_outcome, some_grams, status_begun, status_done, step_done};
 
+use crate::start::Start;
 use crate::states::{Call, next};
 use crate::status::{State, Status, Step};
 use air::day::Day;
@@ -44,14 +45,14 @@ fn reserved(reserve: Option<u64>) -> u64
     }
 }
 
-pub(crate) fn begin(
-    aircraft: &Aircraft,
-    zero_fuel: u64,
-    fuel: u64,
-    reserve: Option<u64>,
-) -> Result<Status, Refusal>
-    ensures { status_begun result ≡ start_outcome aircraft.now (record { zero_fuel = zero_fuel; fuel = fuel; reserve = reserve }) }
+pub(crate) fn begin(aircraft: &Aircraft, start: Start) -> Result<Status, Refusal>
+    ensures { status_begun result ≡ start_outcome aircraft.now start }
 {
+    let Start {
+        zero_fuel,
+        fuel,
+        reserve,
+    } = start;
     let reserve = reserved(reserve);
     if zero_fuel > 1000000000 || fuel > 1000000000 || reserve > 1000000000 {
         return Err(Refusal::Grams);

@@ -2,12 +2,14 @@
 use crate::flight::Flight;
 use crate::hop::fly_hop;
 use crate::reading::Reading;
+use crate::start::Start;
 use air::bench::Bench;
 use aircraft::record::{
     Aircraft, Descent, Engine, Fuel, JetCoefficients, Masses, Row, Rows, Temperature,
 };
 use aircraft::words::Configuration;
 use engine::jet::Jet;
+use leg::figures::Figures;
 use leg::flown::Flown;
 use refusal::refusal::Refusal;
 use std::test::Fail;
@@ -79,6 +81,23 @@ fn sample() -> Aircraft {
     }
 }
 
+fn figures(altitude: u64, speed: u64, calibrated: u64, seconds: u64) -> Figures {
+    Figures {
+        altitude,
+        speed,
+        calibrated,
+        seconds,
+    }
+}
+
+fn load(zero_fuel: u64, fuel: u64, reserve: Option<u64>) -> Start {
+    Start {
+        zero_fuel,
+        fuel,
+        reserve,
+    }
+}
+
 // A jet that sips 10 g a minute at idle, and one whose nominal flow is refused at every speed.
 fn sipping() -> Jet {
     Jet {
@@ -113,7 +132,12 @@ fn thirsty() -> Jet {
 }
 
 fn with_kind(kind: Jet, fuel: u64) -> Result<Flight<Jet, Bench>, Refusal> {
-    Flight::start(sample(), kind, Bench::new(45000, 0)?, 50000000, fuel, None)
+    Flight::start(
+        sample(),
+        kind,
+        Bench::new(45000, 0)?,
+        load(50000000, fuel, None),
+    )
 }
 
 fn on_stand() -> Result<Flight<Jet, Bench>, Refusal> {
@@ -127,7 +151,7 @@ fn on_stand() -> Result<Flight<Jet, Bench>, Refusal> {
 
 fn in_the_air() -> Result<Flight<Jet, Bench>, Refusal> {
     let mut flight = on_stand()?;
-    let _ = flight.leg(1, 30000, 4500, 280, 60)?;
+    let _ = flight.leg(1, figures(30000, 4500, 280, 60))?;
     Ok(flight)
 }
 
@@ -144,9 +168,7 @@ fn starting(zero_fuel: u64, fuel: u64, reserve: Option<u64>) -> Result<u8, Refus
         sample(),
         sipping(),
         Bench::new(45000, 0)?,
-        zero_fuel,
-        fuel,
-        reserve,
+        load(zero_fuel, fuel, reserve),
     )))
 }
 
@@ -156,9 +178,7 @@ fn marked(reserve: Option<u64>) -> Result<bool, Refusal> {
         sample(),
         sipping(),
         Bench::new(45000, 0)?,
-        50000000,
-        10000000,
-        reserve,
+        load(50000000, 10000000, reserve),
     )?;
     Ok(flight.reading().minimum)
 }
@@ -174,7 +194,7 @@ fn sample_legs(rt: HostRuntime) -> Result<(), Fail> {
             minimum: false,
         }
     );
-    let climb = flight.leg(1, 30000, 4500, 280, 60)?;
+    let climb = flight.leg(1, figures(30000, 4500, 280, 60))?;
     assert_eq!(rt;
         climb,
         Flown {
@@ -194,7 +214,7 @@ fn sample_legs(rt: HostRuntime) -> Result<(), Fail> {
             minimum: false,
         }
     );
-    let cruise = flight.leg(2, 30000, 4500, 280, 60)?;
+    let cruise = flight.leg(2, figures(30000, 4500, 280, 60))?;
     assert_eq!(rt;
         cruise,
         Flown {
@@ -214,7 +234,7 @@ fn sample_legs(rt: HostRuntime) -> Result<(), Fail> {
             minimum: false,
         }
     );
-    assert_eq!(rt; number(flight.leg(2, 30000, 4500, 280, 61)), 20);
+    assert_eq!(rt; number(flight.leg(2, figures(30000, 4500, 280, 61))), 20);
     flight.jettison(100000)?;
     assert_eq!(rt;
         flight.reading(),
@@ -237,10 +257,7 @@ fn sample_hop(rt: HostRuntime) -> Result<(), Fail> {
         Bench::new(45000, 0)?,
         50000000,
         10000000,
-        30000,
-        4500,
-        280,
-        60,
+        figures(30000, 4500, 280, 60),
     )?;
     assert_eq!(rt; number(hop.uplifted), 0);
     assert_eq!(rt; number(hop.flown), 0);
@@ -259,8 +276,8 @@ fn sample_hop(rt: HostRuntime) -> Result<(), Fail> {
 #[test]
 fn calls_on_stand(rt: HostRuntime) -> Result<(), Fail> {
     let mut flight = on_stand()?;
-    assert_eq!(rt; number(flight.leg(2, 30000, 4500, 280, 60)), 16);
-    assert_eq!(rt; number(flight.leg(3, 30000, 4500, 280, 60)), 16);
+    assert_eq!(rt; number(flight.leg(2, figures(30000, 4500, 280, 60))), 16);
+    assert_eq!(rt; number(flight.leg(3, figures(30000, 4500, 280, 60))), 16);
     assert_eq!(rt; number(flight.jettison(1)), 16);
     assert_eq!(rt; number(flight.touchdown()), 16);
     assert_eq!(rt;
@@ -280,8 +297,8 @@ fn calls_on_stand(rt: HostRuntime) -> Result<(), Fail> {
             minimum: false,
         }
     );
-    assert_eq!(rt; number(flight.leg(1, 30000, 4500, 280, 60)), 0);
-    assert_eq!(rt; number(flight.leg(2, 30000, 4500, 280, 60)), 0);
+    assert_eq!(rt; number(flight.leg(1, figures(30000, 4500, 280, 60))), 0);
+    assert_eq!(rt; number(flight.leg(2, figures(30000, 4500, 280, 60))), 0);
     Ok(())
 }
 
@@ -297,9 +314,9 @@ fn calls_in_the_air(rt: HostRuntime) -> Result<(), Fail> {
             minimum: false,
         }
     );
-    assert_eq!(rt; number(flight.leg(1, 30000, 4500, 280, 60)), 0);
-    assert_eq!(rt; number(flight.leg(2, 30000, 4500, 280, 60)), 0);
-    assert_eq!(rt; number(flight.leg(3, 30000, 4500, 280, 60)), 0);
+    assert_eq!(rt; number(flight.leg(1, figures(30000, 4500, 280, 60))), 0);
+    assert_eq!(rt; number(flight.leg(2, figures(30000, 4500, 280, 60))), 0);
+    assert_eq!(rt; number(flight.leg(3, figures(30000, 4500, 280, 60))), 0);
     assert_eq!(rt; number(flight.jettison(1)), 0);
     assert_eq!(rt; number(flight.touchdown()), 0);
     assert_eq!(rt; number(flight.touchdown()), 16);
@@ -362,31 +379,31 @@ fn refused_jettisons(rt: HostRuntime) -> Result<(), Fail> {
 #[test]
 fn refused_legs(rt: HostRuntime) -> Result<(), Fail> {
     let mut flight = on_stand()?;
-    assert_eq!(rt; number(flight.leg(4, 40001, 299, 19, 0)), 15);
-    assert_eq!(rt; number(flight.leg(2, 40001, 299, 19, 0)), 16);
-    assert_eq!(rt; number(flight.leg(1, 40001, 299, 19, 0)), 17);
-    assert_eq!(rt; number(flight.leg(1, 40000, 299, 19, 0)), 18);
-    assert_eq!(rt; number(flight.leg(1, 40000, 300, 19, 0)), 19);
-    assert_eq!(rt; number(flight.leg(1, 40000, 300, 20, 0)), 20);
-    assert_eq!(rt; number(flight.leg(1, 40000, 300, 20, 1)), 22);
+    assert_eq!(rt; number(flight.leg(4, figures(40001, 299, 19, 0))), 15);
+    assert_eq!(rt; number(flight.leg(2, figures(40001, 299, 19, 0))), 16);
+    assert_eq!(rt; number(flight.leg(1, figures(40001, 299, 19, 0))), 17);
+    assert_eq!(rt; number(flight.leg(1, figures(40000, 299, 19, 0))), 18);
+    assert_eq!(rt; number(flight.leg(1, figures(40000, 300, 19, 0))), 19);
+    assert_eq!(rt; number(flight.leg(1, figures(40000, 300, 20, 0))), 20);
+    assert_eq!(rt; number(flight.leg(1, figures(40000, 300, 20, 1))), 22);
     let mut refusing = with_kind(thirsty(), 1)?;
-    assert_eq!(rt; number(refusing.leg(1, 30000, 300, 280, 60)), 22);
-    assert_eq!(rt; number(refusing.leg(1, 30000, 4500, 280, 60)), 23);
+    assert_eq!(rt; number(refusing.leg(1, figures(30000, 300, 280, 60))), 22);
+    assert_eq!(rt; number(refusing.leg(1, figures(30000, 4500, 280, 60))), 23);
     let mut short = with_kind(
         Jet {
             coefficients: sample_jet(),
         },
         1,
     )?;
-    assert_eq!(rt; number(short.leg(1, 30000, 4500, 280, 60)), 25);
-    assert_eq!(rt; number(short.leg(2, 30000, 4500, 280, 60)), 16);
+    assert_eq!(rt; number(short.leg(1, figures(30000, 4500, 280, 60))), 25);
+    assert_eq!(rt; number(short.leg(2, figures(30000, 4500, 280, 60))), 16);
     Ok(())
 }
 
 // Descents of a minute; the number of the first refusal, or 0.
 fn descend(flight: &mut Flight<Jet, Bench>, minutes: u64) -> u8 {
     for _ in 0..minutes {
-        let refusal = number(flight.leg(3, 30000, 4500, 280, 60));
+        let refusal = number(flight.leg(3, figures(30000, 4500, 280, 60)));
         if refusal != 0 {
             return refusal;
         }
@@ -397,15 +414,15 @@ fn descend(flight: &mut Flight<Jet, Bench>, minutes: u64) -> u8 {
 #[test]
 fn a_million_seconds(rt: HostRuntime) -> Result<(), Fail> {
     let mut flight = with_kind(sipping(), 10000000)?;
-    assert_eq!(rt; number(flight.leg(1, 30000, 4500, 280, 60)), 0);
+    assert_eq!(rt; number(flight.leg(1, figures(30000, 4500, 280, 60))), 0);
     let climbed = flight.reading().mass;
     assert_eq!(rt; descend(&mut flight, 16665), 0);
-    assert_eq!(rt; number(flight.leg(3, 30000, 4500, 280, 41)), 21);
+    assert_eq!(rt; number(flight.leg(3, figures(30000, 4500, 280, 41))), 21);
     assert_eq!(rt; number(flight.touchdown()), 0);
-    assert_eq!(rt; number(flight.leg(1, 30000, 4500, 280, 41)), 21);
-    assert_eq!(rt; number(flight.leg(1, 30000, 300, 280, 41)), 21);
-    assert_eq!(rt; number(flight.leg(1, 30000, 4500, 280, 40)), 0);
-    assert_eq!(rt; number(flight.leg(3, 30000, 4500, 280, 1)), 21);
+    assert_eq!(rt; number(flight.leg(1, figures(30000, 4500, 280, 41))), 21);
+    assert_eq!(rt; number(flight.leg(1, figures(30000, 300, 280, 41))), 21);
+    assert_eq!(rt; number(flight.leg(1, figures(30000, 4500, 280, 40))), 0);
+    assert_eq!(rt; number(flight.leg(3, figures(30000, 4500, 280, 1))), 21);
     assert!(rt; climbed > flight.reading().mass);
     Ok(())
 }

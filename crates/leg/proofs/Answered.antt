@@ -11,7 +11,8 @@ use Rattle.engine.specs.Meaning.{KindMeaning}
 use Rattle.leg.specs.declared.phase.Phase.{Phase}
 use Rattle.leg.specs.declared.flown.Flown.{Flown}
 use Rattle.leg.specs.declared.request.Request.{Request}
-use Rattle.leg.specs.Requests.{Figures, InRange, from_to, figures_of, taken_figures}
+use Rattle.leg.specs.declared.figures.Figures.{Figures}
+use Rattle.leg.specs.Requests.{InRange, from_to, figures_of, taken_figures}
 use Rattle.leg.specs.Configurations.{configuration_of, drag_pair}
 use Rattle.leg.specs.Rules.{weight}
 use Rattle.leg.specs.Legs.{leg_force, leg_lifts, leg_refuses_flow, leg_answer, powered_answer, leg_drag, leg_available, flown_with}

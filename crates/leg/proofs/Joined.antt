@@ -7,7 +7,7 @@ use Rattle.aircraft.specs.declared.words.Configuration.{Configuration}
 use Rattle.air.specs.Day.{Air, day_answer}
 use Rattle.engine.specs.Meaning.{KindMeaning}
 use Rattle.leg.specs.declared.phase.Phase.{Phase}
-use Rattle.leg.specs.Requests.{Figures}
+use Rattle.leg.specs.declared.figures.Figures.{Figures}
 use Rattle.leg.specs.Configurations.{configuration_of, drag_pair}
 use Rattle.leg.specs.Rules.{dynamic_pressure, wing_force, weight, lifts, drag_of, temperature_factor, available_thrust}
 use Rattle.leg.specs.Legs.{powered_answer, leg_answer}

@@ -13,7 +13,7 @@ use Rattle.aircraft.specs.declared.words.Configuration.TheVariants as flaps
 use Rattle.aircraft.specs.Values.{row_of}
 use Rattle.leg.specs.declared.phase.Phase.{Phase}
 use Rattle.leg.specs.declared.phase.Phase.TheVariants as phase
-use Rattle.leg.specs.Requests.{Figures}
+use Rattle.leg.specs.declared.figures.Figures.{Figures}
 
 -- the calibrated airspeed counts in kt, the stall speed in 0.001 kt
 abbrev pub slow : (calibrated stall : ℕ) → Bool

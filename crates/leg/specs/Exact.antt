@@ -9,7 +9,7 @@ use Rattle.air.specs.Day.{Air}
 use Rattle.engine.specs.Meaning.{KindMeaning}
 use Rattle.leg.specs.declared.phase.Phase.{Phase}
 use Rattle.leg.specs.declared.phase.Phase.TheVariants.{Climb, Cruise, Descent}
-use Rattle.leg.specs.Requests.{Figures}
+use Rattle.leg.specs.declared.figures.Figures.{Figures}
 use Rattle.leg.specs.Configurations.{drag_pair, descent_factor, needs_nominal}
 use Rattle.leg.specs.Rules.{greatest_loss, warming}
 use Rattle.leg.specs.Legs.{density_at, deviation_at}

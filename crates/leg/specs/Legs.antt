@@ -8,7 +8,7 @@ use Rattle.air.specs.Day.{Air}
 use Rattle.engine.specs.Meaning.{KindMeaning}
 use Rattle.leg.specs.declared.phase.Phase.{Phase}
 use Rattle.leg.specs.declared.flown.Flown.{Flown}
-use Rattle.leg.specs.Requests.{Figures}
+use Rattle.leg.specs.declared.figures.Figures.{Figures}
 use Rattle.leg.specs.Configurations.{configuration_of, drag_pair, descent_factor, needs_nominal}
 use Rattle.leg.specs.Rules.{dynamic_pressure, wing_force, weight, lifts, drag_of, temperature_factor, available_thrust, thrust_used, limited, flow_used, burned}
 

@@ -9,7 +9,8 @@ use Rattle.air.specs.Day.{Air, AirLaws}
 use Rattle.engine.specs.Meaning.{KindMeaning, KindLaws}
 use Rattle.leg.specs.declared.phase.Phase.{Phase}
 use Rattle.leg.specs.declared.phase.Phase.TheVariants.{Climb, Cruise, Descent}
-use Rattle.leg.specs.Requests.{Figures, InRange}
+use Rattle.leg.specs.declared.figures.Figures.{Figures}
+use Rattle.leg.specs.Requests.{InRange}
 use Rattle.leg.specs.Rules.{weight}
 use Rattle.leg.specs.Legs.{leg_force, leg_refuses_flow, flown_with}
 use Rattle.leg.specs.Exact.{exact_burn_with}

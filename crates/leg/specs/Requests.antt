@@ -1,16 +1,10 @@
--- The figures of a leg, and which of them are taken.
+-- Which figures of a leg are taken.
 use Rattle.std.specs.Prelude.{ℕ, ◌≤◌, Bool, cond, ◌&&◌, Ok, Err, Result, nat_le}
 use Rattle.refusal.specs.declared.refusal.Refusal.{Refusal}
 use Rattle.refusal.specs.declared.refusal.Refusal.TheVariants.{Altitude, Speed, Calibrated, Seconds}
 use Rattle.aircraft.specs.declared.record.Aircraft.{Aircraft}
+use Rattle.leg.specs.declared.figures.Figures.{Figures}
 use Rattle.leg.specs.declared.request.Request.{Request}
-
--- altitude in ft, true airspeed in 0.1 kt, calibrated airspeed in kt, and seconds
-pub record Figures : Type 0 where
-  pub altitude : ℕ
-  pub speed : ℕ
-  pub calibrated : ℕ
-  pub seconds : ℕ
 
 abbrev pub figures_of : Request → Figures
 figures_of r = record { altitude = r.altitude; speed = r.speed; calibrated = r.calibrated; seconds = r.seconds }

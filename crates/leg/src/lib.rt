@@ -2,6 +2,7 @@
 
 mod configurations;
 mod drag;
+pub mod figures;
 mod flow;
 pub mod flown;
 pub mod leg;

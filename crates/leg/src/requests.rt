@@ -2,21 +2,22 @@
 ghost use Rattle.std.specs.Prelude.{◌≡◌};
 ghost use Rattle.leg.specs.Requests.{taken_figures, requested};
 
+use crate::figures::Figures;
 use crate::request::Request;
 use aircraft::record::Aircraft;
 use refusal::refusal::Refusal;
 
 impl Request {
     // Refused by the first figure that is out of its range.
-    pub fn new(
-        aircraft: &Aircraft,
-        altitude: u64,
-        speed: u64,
-        calibrated: u64,
-        seconds: u64,
-    ) -> Result<Request, Refusal>
-        ensures { requested result ≡ taken_figures aircraft.now (record { altitude = altitude; speed = speed; calibrated = calibrated; seconds = seconds }) }
+    pub fn new(aircraft: &Aircraft, figures: Figures) -> Result<Request, Refusal>
+        ensures { requested result ≡ taken_figures aircraft.now figures }
     {
+        let Figures {
+            altitude,
+            speed,
+            calibrated,
+            seconds,
+        } = figures;
         if altitude > aircraft.ceiling {
             return Err(Refusal::Altitude);
         }

@@ -1,4 +1,5 @@
 // Phases, requests and legs at worked figures, at the ends of their ranges and at each refusal; the figures were worked out apart from this code.
+use crate::figures::Figures;
 use crate::flown::Flown;
 use crate::leg::fly;
 use crate::mass::Mass;
@@ -132,6 +133,15 @@ fn largest() -> Aircraft {
     }
 }
 
+fn asked(altitude: u64, speed: u64, calibrated: u64, seconds: u64) -> Figures {
+    Figures {
+        altitude,
+        speed,
+        calibrated,
+        seconds,
+    }
+}
+
 // The sample jet at 450 kt for a minute.
 fn sample_leg(
     phase: Phase,
@@ -141,7 +151,7 @@ fn sample_leg(
     mass: Mass,
 ) -> Result<Flown, Refusal> {
     let day = Bench::new(density, deviation)?;
-    let request = Request::new(&sample(), altitude, 4500, 280, 60)?;
+    let request = Request::new(&sample(), asked(altitude, 4500, 280, 60))?;
     fly(
         &sample(),
         &Jet {
@@ -157,7 +167,7 @@ fn sample_leg(
 // The configuration of the sample jet at 60 t and 250 kt.
 fn flaps(phase: Phase, altitude: u64, calibrated: u64) -> Result<Configuration, Refusal> {
     let day = Bench::new(100000, 0)?;
-    let request = Request::new(&sample(), altitude, 2500, calibrated, 60)?;
+    let request = Request::new(&sample(), asked(altitude, 2500, calibrated, 60))?;
     let flown = fly(
         &sample(),
         &Jet {
@@ -181,7 +191,7 @@ fn largest_leg(
     deviation: i64,
 ) -> Result<Flown, Refusal> {
     let day = Bench::new(150000, deviation)?;
-    let request = Request::new(&largest(), altitude, 7000, calibrated, 60)?;
+    let request = Request::new(&largest(), asked(altitude, 7000, calibrated, 60))?;
     fly(
         &largest(),
         &Jet {
@@ -205,7 +215,7 @@ fn refusal_of(
     milligrams: u64,
 ) -> Result<u8, Refusal> {
     let day = Bench::new(45000, 0)?;
-    let request = Request::new(&sample(), altitude, speed, 191, 60)?;
+    let request = Request::new(&sample(), asked(altitude, speed, 191, 60))?;
     if milligrams < 200000000 || milligrams > 900000000000 {
         return Err(Refusal::Script);
     }
@@ -217,7 +227,7 @@ fn refusal_of(
 
 // The number by which the figures of a leg are refused, or 0.
 fn figures(altitude: u64, speed: u64, calibrated: u64, seconds: u64) -> u8 {
-    match Request::new(&sample(), altitude, speed, calibrated, seconds) {
+    match Request::new(&sample(), asked(altitude, speed, calibrated, seconds)) {
         Ok(_) => 0,
         Err(refusal) => u8::from(refusal),
     }

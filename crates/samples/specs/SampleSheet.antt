@@ -8,11 +8,13 @@ use Rattle.air.specs.declared.bench.Bench.{Bench}
 use Rattle.air.specs.Days.{bench_air}
 use Rattle.engine.specs.Engines.{engine_of}
 use Rattle.leg.specs.declared.flown.Flown.{Flown}
-use Rattle.leg.specs.Requests.{Figures}
+use Rattle.leg.specs.declared.figures.Figures.{Figures}
 use Rattle.flight.specs.declared.reading.Reading.{Reading}
 use Rattle.flight.specs.declared.status.State.{State}
 use Rattle.flight.specs.declared.status.State.TheVariants.{Stand, Airborne}
-use Rattle.flight.specs.Calls.{Setting, Start, Leg, Jettison}
+use Rattle.flight.specs.declared.start.Start.{Start}
+use Rattle.flight.specs.declared.call.Call.TheVariants.{Leg, Jettison}
+use Rattle.flight.specs.Calls.{Setting}
 use Rattle.flight.specs.Accounts.{Account, reading_of, start_outcome, outcome, silent}
 
 -- the bench day of 0.45 kg/m³ at standard temperature

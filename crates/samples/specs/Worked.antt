@@ -16,7 +16,7 @@ use Rattle.air.specs.Day.{Air}
 use Rattle.air.specs.Between.{between}
 use Rattle.engine.specs.Engines.{engine_of}
 use Rattle.leg.specs.declared.phase.Phase.TheVariants.{Descent}
-use Rattle.leg.specs.Requests.{Figures}
+use Rattle.leg.specs.declared.figures.Figures.{Figures}
 use Rattle.leg.specs.Configurations.{configuration_of}
 use Rattle.leg.specs.Legs.{deviation_at, leg_available}
 use Rattle.samples.specs.SampleJet.{SampleJet}

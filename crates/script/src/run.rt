@@ -2,6 +2,7 @@
 ghost use Rattle.sheet.specs.Sheets.{Keeps};
 
 use sheet::sheet::Sheet;
+use sheet::show::AnswerLine;
 use std::fmt::Write;
 use std::io;
 use std::io::{BufRead, BufReader, Read};
@@ -37,7 +38,7 @@ fn next_line<'a, R: Read>(
 fn answer(sheet: &mut Sheet, line: &[u8], out: &mut String) -> io::Result<()>
     ensures { Keeps sheet.old sheet.new }
 {
-    let answer = sheet.line(line);
+    let answer = AnswerLine(sheet.line(line));
     Ok(write!(out, "{answer}")?)
 }
 

@@ -1,4 +1,5 @@
-mod Digits
 mod Printable
-mod Words
+mod Named
+mod Called
+mod Marks
 pub mod Kept

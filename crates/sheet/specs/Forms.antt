@@ -4,7 +4,7 @@ use Rattle.std.specs.Str.{bytes_eq}
 use Rattle.text.specs.Bytes.{every, printable}
 use Rattle.sheet.specs.declared.form.Form.{Form}
 use Rattle.sheet.specs.declared.form.Form.TheVariants as form
-use Rattle.sheet.specs.declared.form.Call.TheVariants as call
+use Rattle.flight.specs.declared.call.Call.TheVariants as call
 use Rattle.sheet.specs.Words.{first_word, behind, has_more, and_then, number_of, deviation_of}
 
 -- what follows the word `bench`: density and deviation
@@ -17,10 +17,10 @@ bench_form s =
 abbrev pub reserved_form : ℕ → List ℕ → Option Form
 reserved_form zero_fuel s =
     and_then (number_of (first_word s)) (λ fuel.
-    and_then (number_of (behind s)) (λ reserve. Some (form.Start zero_fuel fuel (Some reserve))))
+    and_then (number_of (behind s)) (λ reserve. Some (form.Start (record { zero_fuel = zero_fuel; fuel = fuel; reserve = Some reserve }))))
 
 abbrev pub unreserved_form : ℕ → List ℕ → Option Form
-unreserved_form zero_fuel s = and_then (number_of s) (λ fuel. Some (form.Start zero_fuel fuel None))
+unreserved_form zero_fuel s = and_then (number_of s) (λ fuel. Some (form.Start (record { zero_fuel = zero_fuel; fuel = fuel; reserve = None })))
 
 abbrev pub start_form : List ℕ → Option Form
 start_form s =
@@ -34,7 +34,7 @@ leg_form s =
     and_then (number_of (first_word (behind s))) (λ altitude.
     and_then (number_of (first_word (behind (behind s)))) (λ speed.
     and_then (number_of (first_word (behind (behind (behind s))))) (λ calibrated.
-    and_then (number_of (behind (behind (behind (behind s))))) (λ seconds. Some (form.Call (call.Leg phase altitude speed calibrated seconds)))))))
+    and_then (number_of (behind (behind (behind (behind s))))) (λ seconds. Some (form.Call (call.Leg phase (record { altitude = altitude; speed = speed; calibrated = calibrated; seconds = seconds }))))))))
 
 abbrev pub uplift_form : List ℕ → Option Form
 uplift_form s = and_then (number_of s) (λ grams. Some (form.Call (call.Uplift grams)))

@@ -1,9 +1,8 @@
 // What is answered to a script line.
 use flight::reading::Reading;
 use leg::flown::Flown;
-use refusal::refusal::Refusal;
 
-// A day line as it came, what is read of the flight after a start or a call, or the refusal.
+// A day line as it came, or what is read of the flight after a start or a call.
 #[derive(Clone, Copy)]
 pub enum Answer<'a> {
     Day(&'a str),
@@ -12,5 +11,4 @@ pub enum Answer<'a> {
     Uplift(Reading),
     Jettison(Reading),
     Touchdown(Reading),
-    No(Refusal),
 }

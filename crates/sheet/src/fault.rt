@@ -14,9 +14,7 @@ impl fmt::Display for FaultLine {
     ghost output = { λ v. Some (fault_text v.fault) };
 
     fn fmt<W: fmt::Write>(&self, f: &mut fmt::Formatter<W>) -> fmt::Result {
-        let number = u8::from(self.fault);
-        let line = self.fault.line().unwrap_or(0);
-        let field = self.fault.field().unwrap_or(0);
-        write!(f, "no {number} {line} {field}\n")
+        let fault = self.fault;
+        write!(f, "no {fault}\n")
     }
 }

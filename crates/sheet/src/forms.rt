@@ -1,110 +1,91 @@
 // Reads the form of a script line.
-ghost use Rattle.std.specs.Prelude.{◌≡◌, true, OnSome};
+ghost use Rattle.std.specs.Prelude.{◌≡◌, true, false, MatchOption, OnSome};
 ghost use Rattle.text.specs.Bytes.{every, printable};
-ghost use Rattle.sheet.specs.Words.{behind};
-ghost use Rattle.sheet.specs.Forms.{bench_form, reserved_form, unreserved_form, start_form, leg_form, uplift_form, jettison_form, form_by, form_of};
+ghost use Rattle.sheet.specs.Words.{first_word, NumberBefore};
+ghost use Rattle.sheet.specs.Forms.{bench_form, start_form, leg_form, form_by, form_of};
 
-use crate::form::{Call, Form};
+use crate::form::Form;
 use crate::numbers::{deviation, number};
-use crate::scan::{cut_word, is_printable, same};
+use flight::call::Call;
+use flight::start::Start;
+use leg::figures::Figures;
+use std::str;
+use text::bytes::is_printable;
 
-fn bench_form(s: &[u8]) -> Option<Form>
-    ensures { result ≡ bench_form s.now }
+// The number before the first space, and what stands after the space.
+fn number_before(text: &str) -> Option<(u64, &str)>
+    ensures { NumberBefore text.now result }
 {
-    let first = cut_word(s);
-    let density = number(first.word)?;
-    let deviation = deviation(first.rest)?;
+    let (word, rest) = text.split_once(' ')?;
+    Some((number(word)?, rest))
+}
+
+fn bench_form(text: &str) -> Option<Form>
+    ensures { result ≡ bench_form text.now }
+{
+    let (density, rest) = number_before(text)?;
+    let deviation = deviation(rest)?;
     Some(Form::Bench { density, deviation })
 }
 
-fn reserved_form(zero_fuel: u64, s: &[u8]) -> Option<Form>
-    ensures { result ≡ reserved_form zero_fuel s.now }
+fn start_form(text: &str) -> Option<Form>
+    ensures { result ≡ start_form text.now }
 {
-    let first = cut_word(s);
-    let fuel = number(first.word)?;
-    let reserve = number(first.rest)?;
-    Some(Form::Start {
+    let (zero_fuel, rest) = number_before(text)?;
+    let (fuel, reserve) = match rest.split_once(' ') {
+        Some((fuel, reserve)) => (number(fuel)?, Some(number(reserve)?)),
+        None => (number(rest)?, None),
+    };
+    Some(Form::Start(Start {
         zero_fuel,
         fuel,
-        reserve: Some(reserve),
-    })
+        reserve,
+    }))
 }
 
-fn unreserved_form(zero_fuel: u64, s: &[u8]) -> Option<Form>
-    ensures { result ≡ unreserved_form zero_fuel s.now }
+fn leg_form(text: &str) -> Option<Form>
+    ensures { result ≡ leg_form text.now }
 {
-    let fuel = number(s)?;
-    Some(Form::Start {
-        zero_fuel,
-        fuel,
-        reserve: None,
-    })
-}
-
-fn start_form(s: &[u8]) -> Option<Form>
-    ensures { result ≡ start_form s.now }
-{
-    let first = cut_word(s);
-    let zero_fuel = number(first.word)?;
-    if cut_word(first.rest).more {
-        return reserved_form(zero_fuel, first.rest);
-    }
-    unreserved_form(zero_fuel, first.rest)
-}
-
-fn leg_form(s: &[u8]) -> Option<Form>
-    ensures { result ≡ leg_form s.now }
-{
-    let first = cut_word(s);
-    let phase = number(first.word)?;
-    let second = cut_word(first.rest);
-    let altitude = number(second.word)?;
-    let third = cut_word(second.rest);
-    let speed = number(third.word)?;
-    let fourth = cut_word(third.rest);
-    let calibrated = number(fourth.word)?;
-    let seconds = number(fourth.rest)?;
-    Some(Form::Call(Call::Leg {
-        phase,
+    let (phase, rest) = number_before(text)?;
+    let (altitude, rest) = number_before(rest)?;
+    let (speed, rest) = number_before(rest)?;
+    let (calibrated, rest) = number_before(rest)?;
+    let seconds = number(rest)?;
+    let figures = Figures {
         altitude,
         speed,
         calibrated,
         seconds,
-    }))
+    };
+    Some(Form::Call(Call::Leg { phase, figures }))
 }
 
-fn uplift_form(s: &[u8]) -> Option<Form>
-    ensures { result ≡ uplift_form s.now }
+// A line with no byte outside 32 to 126 is text.
+pub(crate) fn text_of(line: &[u8]) -> Option<&str>
+    ensures { MatchOption result (every printable line.now ≡ false) (λ t. (t.now ≡ line.now) × (every printable line.now ≡ true)) }
 {
-    Some(Form::Call(Call::Uplift(number(s)?)))
+    if !is_printable(line) {
+        return None;
+    }
+    str::from_utf8(line).ok()
 }
 
-fn jettison_form(s: &[u8]) -> Option<Form>
-    ensures { result ≡ jettison_form s.now }
+// The form of a text by its first word.
+pub(crate) fn form_of_text(text: &str) -> Option<Form>
+    ensures { result ≡ form_by (first_word text.now) text.now }
 {
-    Some(Form::Call(Call::Jettison(number(s)?)))
-}
-
-fn form_by(word: &[u8], rest: &[u8], line: &[u8]) -> Option<Form>
-    requires { rest.now ≡ behind line.now }
-    ensures { result ≡ form_by word.now line.now }
-{
-    if same(word, b"leg") {
-        leg_form(rest)
-    } else if same(word, b"uplift") {
-        uplift_form(rest)
-    } else if same(word, b"jettison") {
-        jettison_form(rest)
-    } else if same(word, b"start") {
-        start_form(rest)
-    } else if same(word, b"bench") {
-        bench_form(rest)
-    } else if same(line, b"touchdown") {
-        Some(Form::Call(Call::Touchdown))
-    } else if same(line, b"standard") {
-        Some(Form::Standard)
-    } else {
-        None
+    match text.split_once(' ') {
+        Some(("leg", rest)) => leg_form(rest),
+        Some(("uplift", rest)) => Some(Form::Call(Call::Uplift(number(rest)?))),
+        Some(("jettison", rest)) => Some(Form::Call(Call::Jettison(number(rest)?))),
+        Some(("start", rest)) => start_form(rest),
+        Some(("bench", rest)) => bench_form(rest),
+        Some(_) => None,
+        None => match text {
+            "touchdown" => Some(Form::Call(Call::Touchdown)),
+            "standard" => Some(Form::Standard),
+            _ => None,
+        },
     }
 }
 
@@ -113,9 +94,5 @@ pub fn form(line: &[u8]) -> Option<Form>
     ensures value { result ≡ form_of line.now }
     ensures printable { OnSome result (every printable line.now ≡ true) }
 {
-    if !is_printable(line) {
-        return None;
-    }
-    let first = cut_word(line);
-    form_by(first.word, first.rest, line)
+    form_of_text(text_of(line)?)
 }

@@ -8,6 +8,5 @@ pub mod form;
 pub mod forms;
 pub mod line;
 mod numbers;
-mod scan;
 pub mod sheet;
 pub mod show;

@@ -1,83 +1,49 @@
 // The text of an answer.
 ghost use Rattle.std.specs.Prelude.{Some};
-ghost use Rattle.sheet.specs.Texts.{mark_text, figures_text, forces_text, flown_text, answer_text};
+ghost use Rattle.sheet.specs.Texts.{figures_text, flown_text, answer_text, line_text};
 
 use crate::answer::Answer;
 use flight::reading::Reading;
 use leg::flown::Flown;
+use refusal::refusal::Refusal;
 use std::fmt;
-
-// A mark: 1 where it is up.
-#[derive(Clone, Copy)]
-struct Mark {
-    up: bool,
-}
-
-impl fmt::Display for Mark {
-    ghost output = { λ v. Some (mark_text v.up) };
-
-    fn fmt<W: fmt::Write>(&self, f: &mut fmt::Formatter<W>) -> fmt::Result {
-        if self.up {
-            write!(f, "1")
-        } else {
-            write!(f, "0")
-        }
-    }
-}
 
 // Mass, fuel and the minimum-fuel mark.
 #[derive(Clone, Copy)]
-struct Figures {
-    reading: Reading,
-}
+struct Figures(Reading);
 
 impl fmt::Display for Figures {
-    ghost output = { λ v. Some (figures_text v.reading) };
+    ghost output = { λ v. Some (figures_text v.0) };
 
     fn fmt<W: fmt::Write>(&self, f: &mut fmt::Formatter<W>) -> fmt::Result {
-        let mass = self.reading.mass;
-        let fuel = self.reading.fuel;
-        let minimum = Mark {
-            up: self.reading.minimum,
-        };
+        let Reading {
+            mass,
+            fuel,
+            minimum,
+        } = self.0;
+        let minimum = u8::from(minimum);
         write!(f, "{mass} {fuel} {minimum}")
-    }
-}
-
-// Configuration, thrust and drag.
-#[derive(Clone, Copy)]
-struct Forces {
-    flown: Flown,
-}
-
-impl fmt::Display for Forces {
-    ghost output = { λ v. Some (forces_text v.flown) };
-
-    fn fmt<W: fmt::Write>(&self, f: &mut fmt::Formatter<W>) -> fmt::Result {
-        let configuration = self.flown.configuration;
-        let thrust = self.flown.thrust;
-        let drag = self.flown.drag;
-        write!(f, "{configuration} {thrust} {drag}")
     }
 }
 
 // What a leg answers.
 #[derive(Clone, Copy)]
-struct LegFigures {
-    flown: Flown,
-}
+struct LegFigures(Flown);
 
 impl fmt::Display for LegFigures {
-    ghost output = { λ v. Some (flown_text v.flown) };
+    ghost output = { λ v. Some (flown_text v.0) };
 
     fn fmt<W: fmt::Write>(&self, f: &mut fmt::Formatter<W>) -> fmt::Result {
-        let forces = Forces { flown: self.flown };
-        let flow = self.flown.flow;
-        let burn = self.flown.burn;
-        let limited = Mark {
-            up: self.flown.limited,
-        };
-        write!(f, "{forces} {flow} {burn} {limited}")
+        let Flown {
+            configuration,
+            thrust,
+            drag,
+            flow,
+            burn,
+            limited,
+        } = self.0;
+        let limited = u8::from(limited);
+        write!(f, "{configuration} {thrust} {drag} {flow} {burn} {limited}")
     }
 }
 
@@ -86,29 +52,32 @@ impl<'a> fmt::Display for Answer<'a> {
 
     fn fmt<W: fmt::Write>(&self, f: &mut fmt::Formatter<W>) -> fmt::Result {
         match *self {
-            Answer::Day(line) => write!(f, "{line}\n"),
-            Answer::Start(reading) => {
-                let figures = Figures { reading };
-                write!(f, "start {figures}\n")
-            }
-            Answer::Leg(flown, reading) => {
-                let leg = LegFigures { flown };
-                let figures = Figures { reading };
-                write!(f, "leg {leg} {figures}\n")
-            }
-            Answer::Uplift(reading) => {
-                let figures = Figures { reading };
-                write!(f, "uplift {figures}\n")
-            }
-            Answer::Jettison(reading) => {
-                let figures = Figures { reading };
-                write!(f, "jettison {figures}\n")
-            }
-            Answer::Touchdown(reading) => {
-                let figures = Figures { reading };
-                write!(f, "touchdown {figures}\n")
-            }
-            Answer::No(refusal) => { write!(f, "no {refusal}\n") }
+            Answer::Day(text) => write!(f, "{text}\n"),
+            Answer::Start(reading) => write!(f, "start {}\n", Figures(reading)),
+            Answer::Leg(flown, reading) => write!(
+                f,
+                "leg {} {}\n",
+                LegFigures(flown),
+                Figures(reading)
+            ),
+            Answer::Uplift(reading) => write!(f, "uplift {}\n", Figures(reading)),
+            Answer::Jettison(reading) => write!(f, "jettison {}\n", Figures(reading)),
+            Answer::Touchdown(reading) => write!(f, "touchdown {}\n", Figures(reading)),
+        }
+    }
+}
+
+// What is written to a line: the answer, or the number of the refusal.
+#[derive(Clone, Copy)]
+pub struct AnswerLine<'a>(pub Result<Answer<'a>, Refusal>);
+
+impl<'a> fmt::Display for AnswerLine<'a> {
+    ghost output = { λ v. Some (line_text v.0) };
+
+    fn fmt<W: fmt::Write>(&self, f: &mut fmt::Formatter<W>) -> fmt::Result {
+        match self.0 {
+            Ok(answer) => write!(f, "{answer}"),
+            Err(refusal) => write!(f, "no {refusal}\n"),
         }
     }
 }

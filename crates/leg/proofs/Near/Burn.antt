@@ -12,7 +12,8 @@ use Rattle.air.specs.Day.{Air}
 use Rattle.engine.specs.Meaning.{KindMeaning, KindLaws}
 use Rattle.leg.specs.declared.phase.Phase.{Phase}
 use Rattle.leg.specs.declared.phase.Phase.TheVariants as phase
-use Rattle.leg.specs.Requests.{Figures, InRange}
+use Rattle.leg.specs.declared.figures.Figures.{Figures}
+use Rattle.leg.specs.Requests.{InRange}
 use Rattle.leg.specs.Configurations.{descent_factor, needs_nominal}
 use Rattle.leg.specs.Rules.{warming, weight, thrust_used}
 use Rattle.leg.specs.Legs.{density_at, deviation_at, leg_force, leg_drag, leg_available, leg_flow}

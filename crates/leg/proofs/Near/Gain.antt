@@ -8,7 +8,7 @@ use Rattle.aircraft.specs.declared.words.Configuration.{Configuration}
 use Rattle.air.specs.Day.{Air}
 use Rattle.engine.specs.Meaning.{KindMeaning, KindLaws}
 use Rattle.leg.specs.declared.phase.Phase.TheVariants.{Climb, Cruise, Descent}
-use Rattle.leg.specs.Requests.{Figures}
+use Rattle.leg.specs.declared.figures.Figures.{Figures}
 use Rattle.leg.specs.Rules.{weight}
 use Rattle.leg.specs.Legs.{leg_force}
 use Rattle.leg.specs.Exact.{exact_weight, exact_leg_force, exact_drag, exact_available, exact_cruise_cap, exact_thrust_used, exact_flow_used, exact_burned, exact_thrust, exact_flow, exact_burn_with}
