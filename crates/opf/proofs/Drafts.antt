@@ -17,7 +17,7 @@ use Rattle.aircraft.specs.Words.{configuration_word, configuration_row, first_na
 use Rattle.opf.specs.Faults.{or_else, first_of}
 use Rattle.opf.specs.Fields.{field}
 use Rattle.opf.specs.Numbers.{number_of}
-use Rattle.opf.specs.DataLines.{Fields, natural, integer, nth_line, engine_of, masses_of, configuration_of, configuration_lines, names, line_naming, row_of, row_from, came, new_fault, configuration_faults, thrust_of, descent_of, consumption_of, idle_of, faults_at, data_fault}
+use Rattle.opf.specs.DataLines.{Fields, counted, natural, nth_line, engine_of, masses_of, configuration_of, configuration_lines, names, line_naming, row_of, row_from, came, new_fault, configuration_faults, thrust_of, descent_of, consumption_of, idle_of, faults_at, data_fault}
 use Rattle.opf.specs.Files.{draft_of}
 use Rattle.opf.specs.Steps.{filled, rows_with, after_line}
 use Rattle.opf.specs.Quantities as quantity
@@ -49,7 +49,7 @@ at_line g ds fs j k e h = ap g (nth_more ds fs j k e h) ∙ cond_after g (eqb k 
 
 -- a line that is not there gives the same for every engine
 thrust_none : (e e' : EngineType) → thrust_of e [] ≡ thrust_of e' []
-unfolding natural integer number_of
+unfolding counted number_of
 thrust_none engine.Jet engine.Jet = refl
 thrust_none engine.Jet engine.Turboprop = refl
 thrust_none engine.Turboprop engine.Jet = refl

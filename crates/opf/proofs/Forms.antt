@@ -4,9 +4,9 @@ use Rattle.std.proofs.lemmas.List.{take_rest}
 use Rattle.std.proofs.lemmas.Bool.{eq-eqb, ne_eqb}
 use Rattle.text.specs.Digits.{digits_of, number_written}
 use Rattle.text.proofs.Written.{nineteen_at_most}
-use Rattle.opf.specs.Numbers.{lowers, unsigned_number, number_of}
+use Rattle.opf.specs.Numbers.{lowers, signed_value, unsigned_number, number_of}
 
-pub number_made : (m : Bool) (t : List ℕ) (d : ℕ) (l : Bool) (e : ℕ) → length t ≡ 10 → get_or t 0 0 ≡ 46 → get_or t 6 0 ≡ 69 → Some d ≡ number_written (take 5 (drop 1 t)) → Some l ≡ lowers (get_or t 7 0) → Some e ≡ number_written (take (length t - 8) (drop 8 t)) → Some (record { negative = m; digits = d; lowered = l; exponent = e }) ≡ unsigned_number m t
+pub number_made : (m : Bool) (t : List ℕ) (d : ℕ) (l : Bool) (e : ℕ) → length t ≡ 10 → get_or t 0 0 ≡ 46 → get_or t 6 0 ≡ 69 → Some d ≡ number_written (take 5 (drop 1 t)) → Some l ≡ lowers (get_or t 7 0) → Some e ≡ number_written (take (length t - 8) (drop 8 t)) → Some (record { negative = m; digits = d; exponent = signed_value l e }) ≡ unsigned_number m t
 number_made m t d l e len point letter ds ls es =
     let five : length (take 5 (drop 1 t)) ≡ 5 = simp (length-take, length-drop, len) in
     let two : length (drop 8 t) ≡ 2 = simp (length-drop, len) in

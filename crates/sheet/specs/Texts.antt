@@ -2,7 +2,7 @@
 use Rattle.std.specs.Prelude.{ℕ, Bool, cond, List, [], ◌∷◌, ◌++◌, codes, decimal, Ok, Err, Result}
 use Rattle.refusal.specs.declared.fault.Fault.{Fault}
 use Rattle.refusal.specs.declared.refusal.Refusal.{Refusal}
-use Rattle.refusal.specs.Numbers.{refusal_number, fault_number, fault_line, fault_field}
+use Rattle.refusal.specs.Numbers.{refusal_number, fault_figures}
 use Rattle.aircraft.specs.Words.{configuration_word}
 use Rattle.flight.specs.declared.reading.Reading.{Reading}
 use Rattle.leg.specs.declared.flown.Flown.{Flown}
@@ -37,4 +37,4 @@ line_text (Err e) = codes "no " ++ (decimal (refusal_number e) ++ (10 ∷ []))
 
 -- number, line and field
 abbrev pub fault_text : Fault → List ℕ
-fault_text f = codes "no " ++ (decimal (fault_number f) ++ (32 ∷ (decimal (fault_line f) ++ (32 ∷ (decimal (fault_field f) ++ (10 ∷ []))))))
+fault_text f = codes "no " ++ (fault_figures f ++ (10 ∷ []))
