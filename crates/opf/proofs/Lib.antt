@@ -5,6 +5,7 @@ mod Forms
 mod Readings
 mod Drafts
 mod Files
+mod Numbered
 mod Rows
 mod Accepted
 mod Judged

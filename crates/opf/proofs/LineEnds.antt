@@ -1,27 +1,19 @@
--- The first line of a text, by its first LF; and a line's bytes one by one.
-use Rattle.std.proofs.Common.{◌≡◌, ℕ, zero, suc, ◌+◌, ◌-◌, ◌<◌, Bool, true, false, ◌&&◌, eqb, ◌⊎◌, List, [], ◌∷◌, length, get_or, take, drop, sym, refl, ap, ◌∙◌, ⊎_elim, add-one, one-add, arith}
-use native.Mathlib.Nat.{sub-zero}
-use native.Mathlib.Numerals.{unary_clauses}
+-- The first line of a text, by its first LF.
+use Rattle.std.proofs.Common.{◌≡◌, ℕ, zero, suc, ◌+◌, ◌<◌, ◌≤◌, true, false, ◌&&◌, eqb, List, [], ◌∷◌, length, take, drop, Some, None, Bor, MatchOption, not, sym, refl, ap, ◌∙◌, ⊎_elim, add-one, one-add, arith}
 use Rattle.std.specs.List.{prefix_len}
-use Rattle.std.proofs.lemmas.List.{drop_more}
-use Rattle.std.proofs.lemmas.Bool.{eq-eqb, ne_eqb, both_ways, and_right, and_cases, and_parts, or_from, or_left, or_right, cases_Bool}
-use Rattle.text.specs.Bytes.{every, other_than, without_cr}
+use Rattle.std.specs.Bool.{then_some}
+use Rattle.std.proofs.lemmas.List.{nil_from_length}
+use Rattle.std.proofs.lemmas.Bool.{eqb-true, eqb-false, both_ways, and_right, and_cases, and_parts, cases_Bool}
+use Rattle.text.specs.Bytes.{other_than, without_cr, cut_at}
+use Rattle.text.proofs.Cuts.{cut_cases}
 use Rattle.opf.specs.Text.{lines, onto, at_lf}
-use Rattle.opf.specs.LineEnds.{line_end_byte}
-use Rattle.opf.specs.Files.{blank}
-
--- a byte that is good at i
-pub every_more : (p : ℕ → Bool) (s : List ℕ) (i : ℕ) → i < length s → p (get_or s i 0) ≡ true → every p (drop (i + 1) s) ≡ every p (drop i s)
-every_more p s i h e = rw (drop_more s i 0, e)
-
-pub every_stops : (p : ℕ → Bool) (s : List ℕ) (i : ℕ) → i < length s → p (get_or s i 0) ≡ false → every p (drop i s) ≡ false
-every_stops p s i h e = rw (drop_more s i 0, e)
+use Rattle.opf.proofs.Runs.{onto_length}
 
 -- what stands before the first LF, without a CR at its end
-abbrev pub front : List ℕ → List ℕ
+abbrev front : List ℕ → List ℕ
 front s = without_cr (take (prefix_len (other_than 10) s) s)
 
-abbrev pub after : List ℕ → List ℕ
+abbrev after : List ℕ → List ℕ
 after s = drop (prefix_len (other_than 10) s + 1) s
 
 longer : (b : ℕ) (s : List ℕ) → eqb b 10 ≡ false → prefix_len (other_than 10) (b ∷ s) ≡ suc (prefix_len (other_than 10) s)
@@ -60,7 +52,7 @@ after_more b s f =
     ∙ ap (λ (n : ℕ). drop n (b ∷ s)) (add-one (suc (prefix_len (other_than 10) s)))
     ∙ sym (ap (λ (n : ℕ). drop n s) (add-one (prefix_len (other_than 10) s)))
 
-pub line_ends : (s : List ℕ) → prefix_len (other_than 10) s < length s → lines s ≡ front s ∷ lines (after s)
+line_ends : (s : List ℕ) → prefix_len (other_than 10) s < length s → lines s ≡ front s ∷ lines (after s)
 line_ends [] h = absurd (omega arith)
 line_ends (b ∷ s) h =
     ⊎_elim
@@ -77,7 +69,7 @@ not_lf : (c : ℕ) (s : List ℕ) → prefix_len (other_than 10) (c ∷ s) ≡ l
 not_lf c s e =
     ⊎_elim (λ t. absurd (let z : prefix_len (other_than 10) (c ∷ s) ≡ 0 = rw t in omega arith)) (λ f. f) (cases_Bool (eqb c 10))
 
-pub line_last : (s : List ℕ) → 0 < length s → prefix_len (other_than 10) s ≡ length s → lines s ≡ s ∷ []
+line_last : (s : List ℕ) → 0 < length s → prefix_len (other_than 10) s ≡ length s → lines s ≡ s ∷ []
 line_last [] h e = absurd (omega arith)
 line_last (b ∷ []) h e =
     ⊎_elim
@@ -93,60 +85,30 @@ line_last (b ∷ c ∷ s) h e =
     rw (f, g, line_last (c ∷ s) (omega arith) i))
     (cases_Bool (eqb b 10))
 
--- a CR at the end
-pub cr_goes : (s : List ℕ) → 0 < length s → get_or s (length s - 1) 0 ≡ 13 → take (length s - 1) s ≡ without_cr s
-cr_goes [] h e = absurd (omega arith)
-cr_goes (b ∷ []) h e = let t : eqb b 13 ≡ true = eq-eqb b 13 e in rw t
-cr_goes (b ∷ c ∷ s) h e = simp unary_clauses (ap (λ r. b ∷ r) (simp unary_clauses at (cr_goes (c ∷ s) (omega arith) (simp unary_clauses (simp unary_clauses at e)))))
+pub line_cut : (s l r : List ℕ) → Some (l, r) ≡ cut_at 10 s → lines s ≡ without_cr l ∷ lines r
+line_cut s l r e =
+    let k = cut_cases 10 s (Some (l, r)) e in
+    line_ends s k.0 ∙ ap (λ (x : List ℕ). without_cr x ∷ lines (after s)) (sym k.1) ∙ ap (λ (x : List ℕ). without_cr l ∷ lines x) (sym k.2)
 
-pub no_cr_stays : (s : List ℕ) → (get_or s (length s - 1) 0 ≡ 13 → ⊥) → s ≡ without_cr s
-no_cr_stays [] h = refl
-no_cr_stays (b ∷ []) h = let f : eqb b 13 ≡ false = ne_eqb b 13 h in rw f
-no_cr_stays (b ∷ c ∷ s) h = ap (λ r. b ∷ r) (no_cr_stays (c ∷ s) (λ e. h (simp unary_clauses (simp unary_clauses at e))))
-
-pub empty_stays : (s : List ℕ) → length s ≡ 0 → s ≡ without_cr s
-empty_stays [] h = refl
-empty_stays (b ∷ s) h = absurd (omega arith)
-
-pub line_cut : (s : List ℕ) (n : ℕ) (l : List ℕ) → n ≡ prefix_len (other_than 10) s → prefix_len (other_than 10) s < length s → l ≡ without_cr (take (n - 0) s) → lines s ≡ l ∷ lines (drop (n + 1) s)
-line_cut s n l e h p = rw (p, sub-zero, e) (line_ends s h)
-
--- Nothing but line ends.
-
-blank_onto : (b : ℕ) (ls : List (List ℕ)) → blank (onto b ls) ≡ (eqb b 13 && blank ls)
-blank_onto b [] = ⊎_elim (λ t. rw t) (λ f. rw f) (cases_Bool (eqb b 13))
-blank_onto b (l ∷ ls) = ⊎_elim (λ t. rw t) (λ f. rw f) (cases_Bool (eqb b 13))
-
-lines_past : (b : ℕ) (s : List ℕ) → eqb b 10 ≡ false → (eqb b 13 && at_lf s) ≡ true → lines (b ∷ s) ≡ lines s
-lines_past b s f t = rw (t, f)
-
-lines_kept : (b : ℕ) (s : List ℕ) → eqb b 10 ≡ false → (eqb b 13 && at_lf s) ≡ false → lines (b ∷ s) ≡ onto b (lines s)
-lines_kept b s f g = rw (g, f)
-
-every_other : (b : ℕ) (s : List ℕ) → eqb b 10 ≡ false → every line_end_byte (b ∷ s) ≡ (eqb b 13 && every line_end_byte s)
-every_other b s f = rw f
-
-every_past : (b : ℕ) (s : List ℕ) → eqb b 13 ≡ true → every line_end_byte (b ∷ s) ≡ every line_end_byte s
-every_past b s t = let e : line_end_byte b ≡ true = or_right (eqb b 10) (eqb b 13) t in rw e
-
-pub blank_is : (s : List ℕ) → every line_end_byte s ≡ blank (lines s)
-blank_is [] = refl
-blank_is (b ∷ s) =
+-- the last line, which no LF ends
+pub last_line : (s : Bor (List ℕ)) (t : List ℕ) → None ≡ cut_at 10 s.now → t ≡ [] → MatchOption (then_some (not (eqb (length s.now) 0)) s) ((lines s.now ≡ []) × (lines t ≡ [])) (λ x. lines s.now ≡ x.now ∷ lines t)
+last_line s t e h =
     ⊎_elim
-    (λ t. rw t (blank_is s))
-    (λ f.
+    (λ (y : eqb (length s.now) 0 ≡ true). rw y (ap lines (nil_from_length s.now (eqb-true (length s.now) 0 y)), ap lines h))
+    (λ (n : eqb (length s.now) 0 ≡ false).
+    let some : 0 < length s.now = omega (arith, eqb-false (length s.now) 0 n) in
+    rw n (line_last s.now some (cut_cases 10 s.now None e) ∙ ap (λ (x : List ℕ). s.now ∷ lines x) (sym h)))
+    (cases_Bool (eqb (length s.now) 0))
+
+-- no more lines than bytes
+pub lines_few : (s : List ℕ) → length (lines s) ≤ length s
+lines_few [] = omega arith
+lines_few (b ∷ s) =
     ⊎_elim
-    (λ t. every_past b s (and_parts (eqb b 13) (at_lf s) t).0 ∙ blank_is s ∙ ap blank (sym (lines_past b s f t)))
-    (λ g. every_other b s f ∙ ap (λ r. eqb b 13 && r) (blank_is s) ∙ sym (blank_onto b (lines s)) ∙ ap blank (sym (lines_kept b s f g)))
+    (λ (t : eqb b 10 ≡ true). rw t (omega (arith, lines_few s)))
+    (λ (f : eqb b 10 ≡ false).
+    ⊎_elim
+    (λ (t : (eqb b 13 && at_lf s) ≡ true). rw (f, t) (omega (arith, lines_few s)))
+    (λ (g : (eqb b 13 && at_lf s) ≡ false). rw (f, g) (omega (arith, onto_length b (lines s), lines_few s)))
     (cases_Bool (eqb b 13 && at_lf s)))
     (cases_Bool (eqb b 10))
-
-pub line_end_stops : (s : List ℕ) (i : ℕ) → i < length s → (get_or s i 0 ≡ 10 → ⊥) → (get_or s i 0 ≡ 13 → ⊥) → every line_end_byte (drop i s) ≡ false
-line_end_stops s i h p q =
-    let e : line_end_byte (get_or s i 0) ≡ false = or_from (eqb (get_or s i 0) 10) (eqb (get_or s i 0) 13) (ne_eqb (get_or s i 0) 10 p) (ne_eqb (get_or s i 0) 13 q) in
-    every_stops line_end_byte s i h e
-
-pub line_end_more : (s : List ℕ) (i : ℕ) → i < length s → (get_or s i 0 ≡ 10) ⊎ (get_or s i 0 ≡ 13) → every line_end_byte (drop (i + 1) s) ≡ every line_end_byte (drop i s)
-line_end_more s i h p =
-    let e : line_end_byte (get_or s i 0) ≡ true = ⊎_elim (λ x. or_left (eqb (get_or s i 0) 10) (eqb (get_or s i 0) 13) (eq-eqb (get_or s i 0) 10 x)) (λ x. or_right (eqb (get_or s i 0) 10) (eqb (get_or s i 0) 13) (eq-eqb (get_or s i 0) 13 x)) p in
-    every_more line_end_byte s i h e

@@ -1,101 +1,66 @@
--- The runs of bytes other than spaces, one at a time.
-use Rattle.std.proofs.Common.{◌≡◌, ℕ, suc, ◌+◌, ◌-◌, ◌<◌, ◌≤◌, true, false, eqb, List, [], ◌∷◌, length, get_or, take, drop, sym, refl, ap, ◌∙◌, ⊎_elim, add-zero, one-add, arith, length-drop}
-use Rattle.std.specs.List.{prefix_len}
-use Rattle.std.proofs.lemmas.List.{get_or-drop, drop-drop, get_or_past}
-use Rattle.std.proofs.lemmas.Bool.{cases_Bool, not_from_true, not_from_false}
+-- The fields are the parts between spaces that are not empty.
+use Rattle.std.proofs.Common.{◌≡◌, ℕ, suc, ◌≤◌, Bool, true, false, not, eqb, List, [], ◌∷◌, length, Some, None, Option, Bor, refl, ap, ◌∙◌, sym, ⊎_elim, arith}
+use Rattle.std.specs.List.{filter, slice_split, onto_first}
+use Rattle.std.specs.Option.{option_map, unwrap_or}
+use Rattle.std.proofs.lemmas.Bool.{ne_eqb, cases_Bool}
+use Rattle.text.specs.Bytes.{is_byte}
 use Rattle.opf.specs.Text.{onto}
-use Rattle.text.specs.Bytes.{is_byte, other_than}
-use Rattle.opf.specs.Fields.{in_run, runs}
+use Rattle.opf.specs.Fields.{runs}
 
-spaces_more : (b : ℕ) (s : List ℕ) → eqb b 32 ≡ true → prefix_len (is_byte 32) (b ∷ s) ≡ suc (prefix_len (is_byte 32) s)
-spaces_more b s t = rw t (one-add (prefix_len (is_byte 32) s))
+abbrev pub is_field : List ℕ → Bool
+is_field l = not (eqb (length l) 0)
 
-no_space : (b : ℕ) (s : List ℕ) → eqb b 32 ≡ false → prefix_len (is_byte 32) (b ∷ s) ≡ 0
-no_space b s f = rw f
+begun : (b : ℕ) (l : List ℕ) → is_field (b ∷ l) ≡ true
+begun b l = let f : eqb (length (b ∷ l)) 0 ≡ false = ne_eqb (length (b ∷ l)) 0 (λ e. omega arith) in rw f
 
-abbrev unspaced : List ℕ → List ℕ
-unspaced s = drop (prefix_len (is_byte 32) s) s
+begins : (b : ℕ) (l : List ℕ) (ps : List (List ℕ)) → filter is_field ((b ∷ l) ∷ ps) ≡ (b ∷ l) ∷ filter is_field ps
+begins b l ps = rw (begun b l)
 
-unspaced_more : (b : ℕ) (s : List ℕ) → eqb b 32 ≡ true → unspaced (b ∷ s) ≡ unspaced s
-unspaced_more b s t = ap (λ (n : ℕ). drop n (b ∷ s)) (spaces_more b s t)
+-- a byte in front of a part that has begun
+goes_on : (b c : ℕ) (ps : List (List ℕ)) → filter is_field (onto_first b (onto_first c ps)) ≡ onto b (filter is_field (onto_first c ps))
+goes_on b c [] = begins b (c ∷ []) [] ∙ ap (onto b) (sym (begins c [] []))
+goes_on b c (p ∷ ps) = begins b (c ∷ p) ps ∙ ap (onto b) (sym (begins c p ps))
 
-unspaced_here : (b : ℕ) (s : List ℕ) → eqb b 32 ≡ false → unspaced (b ∷ s) ≡ b ∷ s
-unspaced_here b s f = ap (λ (n : ℕ). drop n (b ∷ s)) (no_space b s f)
-
--- spaces in front do not count
-runs_skip : (s : List ℕ) → runs s ≡ runs (unspaced s)
-runs_skip [] = refl
-runs_skip (b ∷ s) =
+pub runs_are : (s : List ℕ) → filter is_field (slice_split (is_byte 32) s) ≡ runs s
+runs_are [] = refl
+runs_are (b ∷ []) =
     ⊎_elim
-    (λ t. rw (unspaced_more b s t, t) (runs_skip s))
-    (λ f. ap runs (sym (unspaced_here b s f)))
+    (λ (t : eqb b 32 ≡ true). rw t)
+    (λ (f : eqb b 32 ≡ false). rw f (begins b [] []))
+    (cases_Bool (eqb b 32))
+runs_are (b ∷ c ∷ s) =
+    ⊎_elim
+    (λ (t : eqb b 32 ≡ true). rw t (runs_are (c ∷ s)))
+    (λ (f : eqb b 32 ≡ false).
+    ⊎_elim
+    (λ (t : eqb c 32 ≡ true). rw (f, t) (begins b [] (slice_split (is_byte 32) s) ∙ ap (λ r. (b ∷ []) ∷ r) (rw t at (runs_are (c ∷ s)))))
+    (λ (g : eqb c 32 ≡ false). rw (f, g) (goes_on b c (slice_split (is_byte 32) s) ∙ ap (onto b) (rw g at (runs_are (c ∷ s)))))
+    (cases_Bool (eqb c 32)))
     (cases_Bool (eqb b 32))
 
-run_length : (b : ℕ) (s : List ℕ) → eqb b 32 ≡ false → prefix_len (other_than 32) (b ∷ s) ≡ suc (prefix_len (other_than 32) s)
-run_length b s f = rw f (one-add (prefix_len (other_than 32) s))
+pub onto_length : (b : ℕ) (ls : List (List ℕ)) → length (onto b ls) ≤ suc (length ls)
+onto_length b [] = omega arith
+onto_length b (l ∷ ls) = omega arith
 
-run_none : (b : ℕ) (s : List ℕ) → eqb b 32 ≡ true → prefix_len (other_than 32) (b ∷ s) ≡ 0
-run_none b s t = rw t
-
-alone : (b : ℕ) (t : List ℕ) → eqb b 32 ≡ false → in_run t ≡ false → runs (b ∷ t) ≡ (b ∷ []) ∷ runs t
-alone b t f e = rw (f, e)
-
-joins : (b : ℕ) (t : List ℕ) → eqb b 32 ≡ false → in_run t ≡ true → runs (b ∷ t) ≡ onto b (runs t)
-joins b t f e = rw (f, e)
-
--- the run that begins here
-runs_first : (b : ℕ) (s : List ℕ) → eqb b 32 ≡ false → runs (b ∷ s) ≡ (b ∷ take (prefix_len (other_than 32) s) s) ∷ runs (drop (prefix_len (other_than 32) s) s)
-runs_first b [] f = rw f
-runs_first b (c ∷ s) f =
+-- no more fields than bytes
+pub runs_few : (s : List ℕ) → length (runs s) ≤ length s
+runs_few [] = omega arith
+runs_few (b ∷ []) =
     ⊎_elim
-    (λ t.
-    alone b (c ∷ s) f (not_from_true (eqb c 32) t)
-    ∙ ap (λ (n : ℕ). (b ∷ take n (c ∷ s)) ∷ runs (drop n (c ∷ s))) (sym (run_none c s t)))
-    (λ g.
-    joins b (c ∷ s) f (not_from_false (eqb c 32) g)
-    ∙ ap (onto b) (runs_first c s g)
-    ∙ ap (λ (n : ℕ). (b ∷ take n (c ∷ s)) ∷ runs (drop n (c ∷ s))) (sym (run_length c s g)))
-    (cases_Bool (eqb c 32))
-
--- what is left of the spaces does not begin with one
-blank_or_run : (s : List ℕ) (P : List ℕ → Type 0) → P [] → ((b : ℕ) (t : List ℕ) → eqb b 32 ≡ false → P (b ∷ t)) → P (unspaced s)
-blank_or_run [] P none some = none
-blank_or_run (b ∷ s) P none some =
+    (λ (t : eqb b 32 ≡ true). rw t (omega arith))
+    (λ (f : eqb b 32 ≡ false). rw f (omega arith))
+    (cases_Bool (eqb b 32))
+runs_few (b ∷ c ∷ s) =
     ⊎_elim
-    (λ t. rw (unspaced_more b s t) (blank_or_run s P none some))
-    (λ f. rw (unspaced_here b s f) (some b s f))
+    (λ (t : eqb b 32 ≡ true). rw t (omega (arith, runs_few (c ∷ s))))
+    (λ (f : eqb b 32 ≡ false).
+    ⊎_elim
+    (λ (t : eqb c 32 ≡ true). let few : length (runs s) ≤ suc (length s) = rw t at (runs_few (c ∷ s)) in rw (f, t) (omega arith))
+    (λ (g : eqb c 32 ≡ false). let e : runs (b ∷ c ∷ s) ≡ onto b (runs (c ∷ s)) = rw (f, g) in rw e (omega (arith, onto_length b (runs (c ∷ s)), runs_few (c ∷ s))))
+    (cases_Bool (eqb c 32)))
     (cases_Bool (eqb b 32))
 
-pub no_field : (s t : List ℕ) → t ≡ unspaced s → prefix_len (other_than 32) t ≡ 0 → runs s ≡ []
-no_field s t e =
-    rw (e, runs_skip s)
-    (blank_or_run s (λ u. prefix_len (other_than 32) u ≡ 0 → runs u ≡ []) (λ z. refl)
-    (λ b u f z. absurd (let k = run_length b u f in omega arith)))
-
-pub one_field : (s t : List ℕ) (n : ℕ) → t ≡ unspaced s → n ≡ prefix_len (other_than 32) t → (n ≡ 0 → ⊥) → runs s ≡ take n t ∷ runs (drop n t)
-one_field s t n e m h =
-    rw (m, e, runs_skip s)
-    (blank_or_run s
-    (λ u. (prefix_len (other_than 32) u ≡ 0 → ⊥) → runs u ≡ take (prefix_len (other_than 32) u) u ∷ runs (drop (prefix_len (other_than 32) u) u))
-    (λ z. absurd (z refl))
-    (λ b u f z. runs_first b u f ∙ ap (λ (k : ℕ). take k (b ∷ u) ∷ runs (drop k (b ∷ u))) (sym (run_length b u f)))
-    (λ z. h (m ∙ ap (prefix_len (other_than 32)) e ∙ z)))
-
-pub field_shortens : (s t : List ℕ) (n : ℕ) → t ≡ unspaced s → n ≤ length t → (n ≡ 0 → ⊥) → length (drop n t) < length s
-field_shortens s t n e l h =
-    let k : length t ≡ length s - prefix_len (is_byte 32) s = ap length e ∙ length-drop (prefix_len (is_byte 32) s) s in
-    simp length-drop (omega arith)
-
--- Going through a list by what is left of it.
-
-pub left_here : (xs ys : List (List ℕ)) (x : List ℕ) (i : ℕ) → drop i xs ≡ x ∷ ys → x ≡ get_or xs i []
-left_here xs ys x i e =
-    ap (λ (l : List (List ℕ)). get_or l 0 []) (sym e) ∙ get_or-drop i xs 0 [] ∙ ap (λ (k : ℕ). get_or xs k []) (add-zero i)
-
-pub left_next : (xs ys : List (List ℕ)) (x : List ℕ) (i : ℕ) → drop i xs ≡ x ∷ ys → drop (i + 1) xs ≡ ys
-left_next xs ys x i e = sym (drop-drop 1 i xs) ∙ ap (drop 1) e
-
-pub left_none : (xs : List (List ℕ)) (i k : ℕ) → i ≤ k → drop i xs ≡ [] → [] ≡ get_or xs k []
-left_none xs i k h e =
-    let z : length xs - i ≡ 0 = sym (length-drop i xs) ∙ ap length e in
-    sym (get_or_past xs k [] (omega arith))
+-- the bytes behind a reference, or behind another where there is none
+pub behind : (o : Option (Bor (List ℕ))) (d : Bor (List ℕ)) → (unwrap_or o d).now ≡ unwrap_or (option_map (λ x. x.now) o) d.now
+behind None d = refl
+behind (Some x) d = refl

@@ -1,9 +1,8 @@
 pub mod Faults
 pub mod Text
-pub mod LineEnds
+pub mod Tokens
 pub mod Lines
 pub mod Fields
-pub mod Runs
 pub mod Numbers
 pub mod Counts
 pub mod Quantities

@@ -1,16 +1,14 @@
 // Goes through the lines of a file.
 ghost use Rattle.std.specs.Prelude.{◌≡◌, ◌≤◌, List, [], ◌++◌, length};
+ghost use Rattle.text.specs.Bytes.{every, is_byte};
 ghost use Rattle.opf.specs.Faults.{judge};
 ghost use Rattle.opf.specs.Text.{lines};
 ghost use Rattle.opf.specs.DataLines.{Fields};
-ghost use Rattle.opf.specs.Files.{blank, line_fault, is_end, own_fields, lines_fault, data_lines, draft_of};
+ghost use Rattle.opf.specs.Files.{line_fault, is_end, own_fields, lines_fault, data_lines, draft_of};
 ghost use Rattle.opf.specs.Progress.{HasRead, ReadsLine};
 
-use crate::fields::up_to_slash;
-use crate::line::DataLine;
-use crate::lines::first_line;
+use crate::lines::Lines;
 use crate::progress::Progress;
-use crate::take::take_line;
 use crate::token::{Token, check_text, line_token};
 use aircraft::draft::Draft;
 use refusal::fault::Fault;
@@ -21,33 +19,23 @@ impl Progress {
         ensures { (d : List Fields) → HasRead self.old d → ReadsLine result (line_fault number d line.now) (is_end line.now) self.new (d ++ own_fields line.now) }
     {
         check_text(line, number)?;
-        match line_token(line) {
-            Some(Token::Comment(_)) => Ok(false),
-            Some(Token::Data(rest)) => self.take_data(number, rest),
-            Some(Token::End(_)) => {
-                if self.place <= 22 {
-                    return Err(Fault::DataLines { line: number });
-                }
-                Ok(true)
-            }
-            None => Err(Fault::LineStart { line: number }),
+        match line_token(line).ok_or(Fault::LineStart { line: number })? {
+            Token::Comment(_) => Ok(false),
+            Token::Data(rest) => self.take_data(number, rest),
+            Token::End(_) if self.place <= 22 => Err(Fault::DataLines { line: number }),
+            Token::End(_) => Ok(true),
         }
     }
 }
 
-// Whether nothing but line ends is left.
-fn only_line_ends(rest: &[u8]) -> bool
-    ensures { result ≡ blank (lines rest.now) }
+// A line of CR alone.
+fn is_blank(line: &[u8]) -> bool
+    ensures { result ≡ every (is_byte 13) line.now }
 {
-    for b in rest {
-        if *b != b'\n' && *b != b'\r' {
-            return false;
-        }
-    }
-    true
+    line.iter().all(|b| *b == b'\r')
 }
 
-// Reads the lines one by one, up to the end line.
+// Reads the lines one by one, up to the end line; nothing but line ends follows it.
 pub(crate) fn read_lines(text: &[u8]) -> Result<Draft, Fault>
     requires { length text.now ≤ 32768 }
     ensures { result ≡ judge (lines_fault 1 [] (lines text.now)) (draft_of (data_lines (lines text.now))) }
@@ -56,18 +44,14 @@ pub(crate) fn read_lines(text: &[u8]) -> Result<Draft, Fault>
         draft: Draft::empty(),
         place: 1,
     };
-    let mut rest = text;
-    let mut number = 1;
-    while !rest.is_empty() {
-        let cut = first_line(rest);
-        if progress.take(number, cut.line)? {
-            if only_line_ends(cut.rest) {
+    let mut lines = (1..).zip(Lines(text));
+    while let Some((number, line)) = lines.next() {
+        if progress.take(number, line)? {
+            if lines.all(|(_, line)| is_blank(line)) {
                 return Ok(progress.draft);
             }
             return Err(Fault::AfterEnd { line: number });
         }
-        rest = cut.rest;
-        number += 1;
     }
     Err(Fault::NoEnd)
 }

@@ -14,6 +14,5 @@ mod progress;
 mod quantities;
 pub mod read;
 mod reading;
-mod scan;
 mod take;
 mod token;

@@ -1,31 +1,27 @@
-// The first line of a text, and what follows it.
-ghost use Rattle.std.specs.Prelude.{◌≡◌, ◌<◌, ◌∷◌, length};
+// The lines of a text.
+ghost use Rattle.std.specs.Iterator.{YieldsFirstRef, item_count};
 ghost use Rattle.opf.specs.Text.{lines};
 
-use crate::scan::up_to;
-use text::bytes::without_cr;
+use std::mem;
+use text::bytes::{cut, without_cr};
 
-// A line without its end, and the text after that end.
-#[derive(Clone, Copy)]
-pub(crate) struct Cut<'a> {
-    pub(crate) line: &'a [u8],
-    pub(crate) rest: &'a [u8],
-}
+// What is left of a text, as an iterator of its lines without their ends.
+#[derive(Drop)]
+pub(crate) struct Lines<'a>(pub(crate) &'a [u8]);
 
-pub(crate) fn first_line(text: &[u8]) -> Cut<'_>
-    requires { 0 < length text.now }
-    ensures cuts { lines text.now ≡ result.line.now ∷ lines result.rest.now }
-    ensures shorter { length result.rest.now < length text.now }
-{
-    let n = up_to(text, b'\n');
-    if n == text.len() {
-        return Cut {
-            line: text,
-            rest: &text[n..],
-        };
-    }
-    Cut {
-        line: without_cr(&text[0..n]),
-        rest: &text[n + 1..],
+impl<'a> Iterator for Lines<'a> {
+    type Item = &'a [u8];
+
+    ghost next_gives = { YieldsFirstRef (λ s. lines s.0.now) };
+
+    ghost remaining = { item_count (λ s. lines s.0.now) };
+
+    fn next(&mut self) -> Option<&'a [u8]> {
+        if let Some((line, rest)) = cut(self.0, b'\n') {
+            self.0 = rest;
+            return Some(without_cr(line));
+        }
+        let last = mem::take(&mut self.0);
+        (!last.is_empty()).then_some(last)
     }
 }

@@ -3,7 +3,7 @@ ghost use Rattle.std.specs.Prelude.{◌≡◌};
 ghost use Rattle.opf.specs.Text.{text_fault, line_of};
 ghost use Rattle.opf.specs.Faults.{Judges};
 ghost use Rattle.opf.specs.Lines.{done};
-ghost use Rattle.opf.specs.LineEnds.{line_seen};
+ghost use Rattle.opf.specs.Tokens.{line_seen};
 
 use refusal::fault::Fault;
 use text::bytes::is_printable;
@@ -27,6 +27,7 @@ pub(crate) fn check_text(line: &[u8], number: u32) -> Result<(), Fault>
 }
 
 // What a line is by its two letters.
+#[tactic(auto, using(std::proofs::lemmas::List::take_rest))]
 pub(crate) fn line_token(line: &[u8]) -> Option<Token<'_>>
     ensures { line_seen result ≡ line_of line.now }
 {

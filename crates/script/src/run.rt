@@ -1,98 +1,44 @@
 // Reads a script and writes the answers: at once where somebody types, in blocks where a file is piped.
 ghost use Rattle.sheet.specs.Sheets.{Keeps};
 
-use sheet::answer::Answer;
 use sheet::sheet::Sheet;
 use std::fmt::Write;
 use std::io;
 use std::io::{BufRead, BufReader, Read};
+use text::bytes::without_cr;
 
-// The longest form has 58 bytes. A CR may follow it, and one byte more tells that a line is longer.
+// The longest form has 58 bytes, and a CR and an LF may follow it.
 const MOST_KEPT: usize = 60;
 
 // Answers are written out at this many bytes at the latest.
 const MOST_HELD: usize = 60000;
 
-// How the bytes of a line came to an end.
-#[derive(Clone, Copy)]
-enum Ended {
-    LineEnd,
-    Input,
-    Nothing,
-}
-
-// How many bytes stand before the first LF.
-fn up_to_end(s: &[u8]) -> usize {
-    for (i, b) in s.iter().enumerate() {
-        if *b == b'\n' {
-            return i;
-        }
-    }
-    s.len()
-}
-
-// Appends what there is room for.
-fn keep(line: &mut Vec<u8>, bytes: &[u8]) -> io::Result<()> {
-    for b in bytes {
-        if line.len() >= MOST_KEPT {
-            return Ok(());
-        }
-        line.push(*b)?;
-    }
-    Ok(())
-}
-
-// Takes what is in the buffer of the next line; none where the line goes on.
-fn take_part<R: Read>(input: &mut BufReader<R>, line: &mut Vec<u8>) -> io::Result<Option<Ended>> {
-    let part = input.fill_buf()?;
-    if part.is_empty() {
-        return Ok(Some(if line.is_empty() {
-            Ended::Nothing
-        } else {
-            Ended::Input
-        }));
-    }
-    let n = up_to_end(part);
-    let ends = n < part.len();
-    keep(line, &part[0..n.min(part.len())])?;
-    if ends {
-        input.consume(n.saturating_add(1));
-        return Ok(Some(Ended::LineEnd));
-    }
-    input.consume(n);
-    Ok(None)
-}
-
-// The next line up to its LF, cut off after the bytes that are kept.
-fn take_line<R: Read>(input: &mut BufReader<R>, line: &mut Vec<u8>) -> io::Result<Ended> {
+// The next line without its end, cut off after the bytes that are kept; none where the input ends.
+fn next_line<'a, R: Read>(
+    input: &mut BufReader<R>,
+    line: &'a mut Vec<u8>,
+) -> io::Result<Option<&'a [u8]>> {
     line.clear();
-    for _ in 0..u64::MAX {
-        if let Some(ended) = take_part(input, line)? {
-            return Ok(ended);
-        }
+    input.take(MOST_KEPT as u64).read_until(b'\n', line)?;
+    if line.is_empty() {
+        return Ok(None);
     }
-    Ok(Ended::Nothing)
+    if let Some(front) = line.as_slice().strip_suffix(b"\n") {
+        return Ok(Some(without_cr(front)));
+    }
+    // A line that is shorter ends with the input.
+    if line.len() == MOST_KEPT {
+        input.skip_until(b'\n')?;
+    }
+    Ok(Some(line.as_slice()))
 }
 
-// A line before its LF loses a CR at its end.
-fn without_end(line: &[u8], ended: Ended) -> &[u8] {
-    match (ended, line) {
-        (Ended::LineEnd, [front @ .., b'\r']) => front,
-        _ => line,
-    }
-}
-
-fn put(answer: Answer<'_>, out: &mut String) -> io::Result<()> {
-    match write!(out, "{answer}") {
-        Ok(()) => Ok(()),
-        Err(_) => Err(io::Error::from(io::ErrorKind::OutOfMemory)),
-    }
-}
-
+#[tactic(auto, using(sheet::proofs::Kept::takes_keeps))]
 fn answer(sheet: &mut Sheet, line: &[u8], out: &mut String) -> io::Result<()>
     ensures { Keeps sheet.old sheet.new }
 {
-    put(sheet.line(line), out)
+    let answer = sheet.line(line);
+    Ok(write!(out, "{answer}")?)
 }
 
 // Writes what is due, and holds it no longer.
@@ -102,27 +48,7 @@ fn write_due(rt: &HostRuntime, out: &mut String) -> io::Result<()> {
     written
 }
 
-// Answers the next line; false where there is none.
-fn answer_next<R: Read>(
-    rt: &HostRuntime,
-    sheet: &mut Sheet,
-    input: &mut BufReader<R>,
-    line: &mut Vec<u8>,
-    out: &mut String,
-) -> io::Result<bool>
-    ensures { Keeps sheet.old sheet.new }
-{
-    let ended = take_line(input, line)?;
-    if let Ended::Nothing = ended {
-        return Ok(false);
-    }
-    answer(sheet, without_end(line.as_slice(), ended), out)?;
-    if out.len() > MOST_HELD || !input.buffer().contains(&b'\n') {
-        write_due(rt, out)?;
-    }
-    Ok(true)
-}
-
+#[tactic(auto, using(sheet::proofs::Kept::keeps_on, sheet::proofs::Kept::keeps_itself))]
 fn answer_lines<R: Read>(
     rt: &HostRuntime,
     sheet: &mut Sheet,
@@ -132,9 +58,14 @@ fn answer_lines<R: Read>(
     ensures { Keeps sheet.old sheet.new }
 {
     let mut line = Vec::new(rt.alloc());
+    // Counted, since a reader may give lines without end, and every loop is to end.
     for _ in 0..u64::MAX {
-        if !answer_next(rt, sheet, input, &mut line, out)? {
+        let Some(text) = next_line(input, &mut line)? else {
             return Ok(());
+        };
+        answer(sheet, text, out)?;
+        if out.len() > MOST_HELD || !input.buffer().contains(&b'\n') {
+            write_due(rt, out)?;
         }
     }
     Ok(())

@@ -1,5 +1,5 @@
--- How the code's tokens are read, and the bytes of line ends.
-use Rattle.std.specs.Prelude.{ℕ, Bool, ◌||◌, Some, None, Option, ◌==◌}
+-- How the code's tokens are read.
+use Rattle.std.specs.Prelude.{Some, None, Option}
 use Rattle.opf.specs.declared.token.Token.{Token}
 use Rattle.opf.specs.declared.token.Token.TheVariants as token
 use Rattle.opf.specs.Text.{Line, comment, data_line, last}
@@ -9,7 +9,3 @@ line_seen None = None
 line_seen (Some (token.Comment s)) = Some (comment s.now)
 line_seen (Some (token.Data s)) = Some (data_line s.now)
 line_seen (Some (token.End s)) = Some (last s.now)
-
--- LF or CR
-abbrev pub line_end_byte : ℕ → Bool
-line_end_byte b = b == 10 || b == 13
