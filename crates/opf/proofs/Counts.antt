@@ -1,5 +1,5 @@
 -- Powers of ten in a number's value.
-use Rattle.std.proofs.Common.{◌≡◌, ℕ, zero, suc, ◌+◌, ◌-◌, ◌*◌, ◌/◌, ◌%◌, ◌^◌, ◌<◌, ◌≤◌, Bool, true, false, cond, not, ◌&&◌, ◌||◌, eqb, leb, ◌⊎◌, inl, inr, ℤ, pos, negsuc, unsigned_abs, neg_ℤ, ◌+ℤ◌, ◌-ℤ◌, ◌<ℤ◌, ◌≤ℤ◌, Some, None, Option, SomeIff, sym, refl, ap, ◌∙◌, ⊎_elim, add-zero, mod-eq_of_lt, zero-lt-suc, mul_assoc, mul_comm, mul-le-mul, mul-pos, pow-suc, zero-mul, mul-div_cancel, add-one, arith, pow-add}
+use Rattle.std.proofs.Common.{◌≡◌, ℕ, zero, suc, ◌+◌, ◌*◌, ◌/◌, ◌%◌, ◌^◌, ◌<◌, ◌≤◌, Bool, true, false, cond, not, ◌&&◌, ◌||◌, eqb, leb, ◌⊎◌, inl, inr, ℤ, pos, negsuc, unsigned_abs, neg_ℤ, ◌+ℤ◌, ◌-ℤ◌, ◌<ℤ◌, ◌≤ℤ◌, Some, None, Option, SomeIff, sym, refl, ap, ◌∙◌, ⊎_elim, add-zero, mod-eq_of_lt, zero-lt-suc, mul_assoc, mul_comm, mul-le-mul, mul-pos, zero-mul, mul-div_cancel, arith, pow-add}
 use native.Mathlib.Nat.{mul-mod_left, mul-div-mul_right, zero-mod, zero-div, pow-le-pow_right}
 use Rattle.std.proofs.Math.Nat.{div-le_self}
 use lib.Signed.{le_z}

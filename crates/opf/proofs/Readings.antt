@@ -1,5 +1,5 @@
 -- A number field by its form and its value.
-use Rattle.std.proofs.Common.{◌≡◌, ℕ, is_some, Some, None, Ok, Err, Option, Result, unwrap_or, refl, sym, ap, arith}
+use Rattle.std.proofs.Common.{◌≡◌, ℕ, is_some, Some, None, Err, Option, Result, unwrap_or, refl, ap, arith}
 use Rattle.std.specs.Option.{ok_or}
 use Rattle.refusal.specs.declared.fault.Fault.{Fault}
 use Rattle.refusal.specs.declared.fault.Fault.TheVariants as fault

@@ -1,4 +1,4 @@
-use Rattle.std.proofs.Common.{◌≡◌, Some, ◌<ℤ◌, ◌≤ℤ◌, w64, to_z, of_z, ap, ◌∙◌, inl, inr, arith}
+use Rattle.std.proofs.Common.{◌≡◌, Some, ◌≤ℤ◌, w64, to_z, of_z, ap, ◌∙◌, inl, inr, arith}
 use Rattle.std.specs.Int.{w128}
 use Rattle.std.proofs.lemmas.Int.{ints}
 use Rattle.opf.specs.Numbers.{signed_value, signed_in}
