@@ -1,6 +1,6 @@
 // A number field of a file, and the unit and range in which a value is read.
 
-// digits × 10 ^ (exponent - 5), or minus that: only a zero keeps no sign, so it stands by itself.
+// digits × 10 ^ (exponent - 5), or minus that: the sign stands apart, as a count takes it off and judges it by itself.
 #[derive(Clone, Copy, Debug)]
 pub(crate) struct Number {
     pub(crate) negative: bool,

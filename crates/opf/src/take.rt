@@ -30,7 +30,7 @@ fn take_row(draft: &mut Draft, line: &DataLine) -> Result<(), Fault>
 pub(crate) fn take_line(draft: &mut Draft, place: u32, line: &DataLine) -> Result<(), Fault>
     ensures { Takes result (first_of (faults_at place line.now.number draft.old.engine (filled draft.old) (line_fields line.now))) draft.new (after_line place draft.old (line_fields line.now)) }
 {
-    // The lines of a file stand by their place, each with its own values.
+    // The place is the layout of a file: each line there has fields of its own, so a match says it best.
     match place {
         1 => draft.engine = reading::engine(line)?,
         2 => draft.masses = reading::masses(line)?,
