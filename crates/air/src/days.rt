@@ -11,7 +11,7 @@ use refusal::refusal::Refusal;
 use refusal::within::Altitude;
 
 impl Bench {
-    // Refused where density or deviation is out of the bounds of a day.
+    // Refused where density or deviation is out of the bounds of a day. By TryFrom the two would come as a pair with no names.
     pub fn new(density: u64, deviation: i64) -> Result<Bench, Refusal>
         ensures { held result ≡ bench_pair density deviation }
     {
