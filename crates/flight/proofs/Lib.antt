@@ -3,3 +3,4 @@ mod Outcomes
 mod Kept
 mod Marks
 mod Chains
+mod Led

@@ -1,5 +1,5 @@
 -- What is known of a call's outcome where it is accepted.
-use Rattle.std.proofs.Common.{◌≡◌, ℕ, ◌+◌, ◌-◌, ◌^◌, ◌≤◌, Bool, true, false, leb, Ok, Err, Result, sym, refl, subst, arith}
+use Rattle.std.proofs.Common.{◌≡◌, ℕ, ◌+◌, ◌-◌, ◌^◌, ◌≤◌, Bool, true, false, leb, Ok, Err, Result, sym, refl, subst}
 use Rattle.std.proofs.lemmas.Bool.{leb-true}
 use Rattle.refusal.specs.declared.refusal.Refusal.{Refusal}
 use Rattle.refusal.specs.declared.refusal.Refusal.TheVariants as refusal
@@ -20,11 +20,11 @@ use Rattle.flight.specs.Accounts.{mass_of, changed, unless, and_then, most_secon
 
 pub then_ok : {A B : Type 0} (r : Result A Refusal) (f : A → Result B Refusal) (b : B) → and_then r f ≡ Ok b → (a : A) × (r ≡ Ok a) × (f a ≡ Ok b)
 then_ok (Ok a) f b q = (a, refl, q)
-then_ok (Err e) f b q = let z : ◌≡◌ {A = ℕ} 0 1 = cc in absurd (omega arith)
+then_ok (Err e) f b q = absurd cc
 
 pub unless_ok : {A : Type 0} (e : Refusal) (test : Bool) (r : Result A Refusal) (a : A) → unless e test r ≡ Ok a → (test ≡ true) × (r ≡ Ok a)
 unless_ok e true r a q = (refl, q)
-unless_ok e false r a q = let z : ◌≡◌ {A = ℕ} 0 1 = cc in absurd (omega arith)
+unless_ok e false r a q = absurd cc
 
 pub record LegAccepted (w : Setting) (l : Account) (n : ℕ) (x : Figures) (d : Done Flown) : Type 0 where
   pub phase : Phase

@@ -3,7 +3,7 @@
 --   outcome                     the answer to a later call with the account that it leaves, or the first refusal that holds
 --   answered left_by            the answer alone, and what is left; a refusal leaves the account as it was
 --   reading_of                  mass, fuel and minimum-fuel mark
-use Rattle.std.specs.Prelude.{ℕ, ◌+◌, ◌-◌, ◌^◌, Bool, cond, ◌&&◌, Ok, Err, Result, nat_le, nat_lt}
+use Rattle.std.specs.Prelude.{◌≡◌, ℕ, ◌+◌, ◌-◌, ◌^◌, Bool, cond, ◌&&◌, Ok, Err, Result, nat_le, nat_lt}
 use Rattle.std.specs.Result.{result_map_both}
 use Rattle.refusal.specs.declared.refusal.Refusal.{Refusal}
 use Rattle.refusal.specs.declared.refusal.Refusal.TheVariants as refusal
@@ -84,6 +84,11 @@ answered (Err e) = Err e
 abbrev pub left_by : {A : Type 0} → Account → Outcome A → Account
 left_by l (Ok d) = d.left
 left_by l (Err e) = l
+
+-- on the account l a call with the outcome o was answered by r, and left the account m
+pub record Leaves {A : Type 0} (l : Account) (o : Outcome A) (r : Result A Refusal) (m : Account) : Type 0 where
+  pub answer : r ≡ answered o
+  pub left : m ≡ left_by l o
 
 abbrev pub silent : Account → Outcome (Unit {0})
 silent l = Ok (record { answer = tt; left = l })

@@ -3,6 +3,8 @@ use Rattle.std.specs.Prelude.{◌≡◌, ℕ, ◌+◌, true, false, List, [], �
 use Rattle.refusal.specs.declared.refusal.Refusal.{Refusal}
 use Rattle.exact.specs.Rational.{nat, ◌+ℚ◌, ◌≤ℚ◌, ◌<ℚ◌, Near}
 use Rattle.aircraft.specs.declared.record.Aircraft.{Aircraft}
+use Rattle.engine.specs.declared.kind.Kind as Kind
+use Rattle.air.specs.declared.day.Day as Day
 use Rattle.air.specs.Day.{Air}
 use Rattle.engine.specs.Meaning.{KindMeaning}
 use Rattle.flight.specs.declared.flight.Flight.{Flight}
@@ -50,9 +52,15 @@ pub record Claims (w : Setting) (s : Start) (es : List Event) (r : Reading) : Ty
   -- what was there and what was put in is there, was thrown out or was burned, to the milligram
   pub balance : starting_mass s + summed put_in es ≡ r.mass + summed thrown_out es + summed burned_by es
 
-module _ {K D : Type 0} (engine : K → KindMeaning) (air : D → Air) where
+-- a start and calls of whose book a reading keeps the claims
+pub record SomeBook (w : Setting) (r : Reading) : Type 0 where
+  pub start : Start
+  pub events : List Event
+  pub claims : Claims w start events r
+
+module _ {K D : Type 0} {k : Kind.Ghosts K} {d : Day.Ghosts D} (engine : K → KindMeaning) (air : D → Air) where
   -- whatever run led to a flight, what is read of it keeps the claims
-  abbrev pub KeepsToTheBook : Flight K D → Reading → Type 0
+  abbrev pub KeepsToTheBook : Flight K D k d → Reading → Type 0
   KeepsToTheBook f r =
       (aircraft : Aircraft) (kind : K) (day : D) (s : Start) (es : List Event) →
       Run engine air aircraft kind day s es f → Claims (setting engine air aircraft kind day) s es r

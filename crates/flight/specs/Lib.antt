@@ -3,6 +3,7 @@ pub mod Book
 pub mod States
 pub mod Account
 pub mod Accounts
+pub mod Chain
 pub mod Runs
 pub mod Claims
 pub mod Hops

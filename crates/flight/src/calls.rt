@@ -2,8 +2,8 @@
 ghost use Rattle.std.specs.Prelude.{◌≡◌};
 ghost use Rattle.flight.specs.declared.call.Call.TheVariants.{Leg, Uplift, Jettison, Touchdown};
 ghost use Rattle.flight.specs.Accounts.{reading_of};
-ghost use Rattle.flight.specs.Runs.{account, Started, Made};
-ghost use Rattle.flight.specs.Claims.{KeepsToTheBook};
+ghost use Rattle.flight.specs.Runs.{account, setting, Started, Made};
+ghost use Rattle.flight.specs.Claims.{KeepsToTheBook, SomeBook};
 
 use crate::flight::Flight;
 use crate::reading::Reading;
@@ -18,7 +18,7 @@ use leg::setting::Setting;
 use refusal::refusal::Refusal;
 
 impl<K: Kind + Drop, D: Day + Drop> Flight<K, D> {
-    // A flight on stand.
+    // A flight on stand. Kind and day come by copy, so that a refused start takes nothing from its caller.
     pub fn start(aircraft: Aircraft, kind: K, day: D, start: Start) -> Result<Flight<K, D>, Refusal>
     where
         K: Copy,
@@ -67,10 +67,11 @@ impl<K: Kind + Drop, D: Day + Drop> Flight<K, D> {
         self.status.touchdown()
     }
 
-    // Mass, fuel and minimum-fuel mark. Whatever start and calls led to this flight, they are close to the exact book of that chain.
+    // Mass, fuel and minimum-fuel mark. Whatever start and calls led to this flight, they are close to the exact book of that chain; and some did.
     pub fn reading(&self) -> Reading
         ensures answer { result ≡ reading_of (account self.now) }
         ensures claims { KeepsToTheBook K.engine D.air self.now result }
+        ensures book { ∥ SomeBook (setting K.engine D.air self.now.aircraft self.now.kind self.now.day) result ∥₁ }
     {
         self.status.reading()
     }

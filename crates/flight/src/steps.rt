@@ -2,7 +2,7 @@
 ghost use Rattle.std.specs.Prelude.{◌≡◌, ◌-◌, nat_le, Ok};
 ghost use Rattle.refusal.specs.declared.refusal.Refusal.TheVariants as refusal;
 ghost use Rattle.flight.specs.Calls.{in_mg};
-ghost use Rattle.flight.specs.Accounts.{mass_of, reading_of, unless, most_grams, some_grams, start_outcome, leg_outcome, answered, left_by, uplift_outcome, jettison_outcome, touchdown_outcome};
+ghost use Rattle.flight.specs.Accounts.{mass_of, reading_of, unless, most_grams, some_grams, start_outcome, leg_outcome, Leaves, uplift_outcome, jettison_outcome, touchdown_outcome};
 
 use crate::reading::Reading;
 use crate::start::Start;
@@ -105,8 +105,7 @@ impl Status {
         phase: u64,
         figures: Figures,
     ) -> Result<Flown, Refusal>
-        ensures answer { result ≡ answered (leg_outcome (record { aircraft = setting.now.aircraft.now; engine = K.engine setting.now.kind.now; air = D.air setting.now.day.now }) self.old phase figures) }
-        ensures left { self.new ≡ left_by self.old (leg_outcome (record { aircraft = setting.now.aircraft.now; engine = K.engine setting.now.kind.now; air = D.air setting.now.day.now }) self.old phase figures) }
+        ensures { Leaves self.old (leg_outcome (record { aircraft = setting.now.aircraft.now; engine = K.engine setting.now.kind.now; air = D.air setting.now.day.now }) self.old phase figures) result self.new }
     {
         let phase = Phase::try_from(phase)?;
         let state = self.state.after(Transition::Leg(phase))?;
@@ -123,8 +122,7 @@ impl Status {
     }
 
     pub(crate) fn uplift(&mut self, aircraft: &Aircraft, grams: u64) -> Result<(), Refusal>
-        ensures answer { result ≡ answered (uplift_outcome aircraft.now self.old grams) }
-        ensures left { self.new ≡ left_by self.old (uplift_outcome aircraft.now self.old grams) }
+        ensures { Leaves self.old (uplift_outcome aircraft.now self.old grams) result self.new }
     {
         let added = some_milligrams(grams)?;
         let state = self.state.after(Transition::Uplift)?;
@@ -135,8 +133,7 @@ impl Status {
     }
 
     pub(crate) fn jettison(&mut self, grams: u64) -> Result<(), Refusal>
-        ensures answer { result ≡ answered (jettison_outcome self.old grams) }
-        ensures left { self.new ≡ left_by self.old (jettison_outcome self.old grams) }
+        ensures { Leaves self.old (jettison_outcome self.old grams) result self.new }
     {
         let thrown = some_milligrams(grams)?;
         let state = self.state.after(Transition::Jettison)?;
@@ -147,8 +144,7 @@ impl Status {
     }
 
     pub(crate) fn touchdown(&mut self) -> Result<(), Refusal>
-        ensures answer { result ≡ answered (touchdown_outcome self.old) }
-        ensures left { self.new ≡ left_by self.old (touchdown_outcome self.old) }
+        ensures { Leaves self.old (touchdown_outcome self.old) result self.new }
     {
         self.state = self.state.after(Transition::Touchdown)?;
         Ok(())

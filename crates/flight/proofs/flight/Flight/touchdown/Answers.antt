@@ -1,0 +1,6 @@
+use Rattle.flight.specs.declared.call.Call.TheVariants.{Touchdown}
+use Rattle.flight.proofs.Led.{one_more}
+use Rattle.flight.proofs.flight.Flight.touchdown.Goals as goal
+
+pub invariant_of-self : goal.invariant_of-self
+invariant_of-self g c = record { chained = one_more _ (Touchdown) c.args.self.now.status _ c.args.self.now.chained c.touchdown.ensures.left }
