@@ -16,8 +16,7 @@ fn check(rt: &HostRuntime, name: &str) -> io::Result<()> {
 }
 
 fn main(rt: HostRuntime) -> io::Result<()> {
-    let mut names = env::args(&rt)?;
-    let _program = names.next();
+    let names = env::args(&rt)?.skip(1);
     let count = names.len();
     let alone = if count == 0 {
         Some(String::from_str(rt.alloc(), "aircraft.opf")?)

@@ -8,6 +8,7 @@ use sheet::sheet::Sheet;
 use std::io::BufReader;
 use std::{env, fs, io};
 
+// The match is that of fuelsheet; one function for both would have to be handed a closure that opens the script.
 fn answer(rt: &HostRuntime, name: &str) -> io::Result<()> {
     let file = fs::open(rt, format!(in rt.alloc(); "{name}.opf")?.as_str())?;
     match aircraft_from(rt.alloc(), file)? {
