@@ -1,3 +1,1 @@
 pub mod Answered
-mod Fits
-mod Worked

@@ -1,5 +1,5 @@
 -- A value between two levels lies in every range in which both levels lie.
-use Rattle.std.specs.Prelude.{ℕ, zero, suc, ◌-◌, ◌*◌, ◌/◌, ◌<◌, ◌≤◌, ◌⊎◌, ℤ, pos, negsuc, ◌+ℤ◌, ◌-ℤ◌, ◌*ℤ◌, neg_ℤ, ◌≤ℤ◌}
+use Rattle.std.specs.Prelude.{ℕ, zero, suc, ◌-◌, ◌*◌, ◌/◌, ◌<◌, ◌≤◌, ◌⊎◌, ℤ, pos, negsuc, ◌+ℤ◌, ◌-ℤ◌, ◌*ℤ◌, neg_ℤ, ◌≤ℤ◌, unsigned_abs}
 use Rattle.std.proofs.Common.{inl, inr, div-lt_iff_lt-mul, mul-le-mul_left, arith}
 use Rattle.std.proofs.Math.Nat.{div-le_of_le-mul}
 use Rattle.std.specs.Int.{int_div_euclid}
@@ -32,3 +32,8 @@ pub between_inside : {lo hi : ℤ} (x0 x1 : ℤ) (h0 h1 h : ℕ) → h0 < h1 →
 between_inside {lo} {hi} x0 x1 h0 h1 h p q a b =
     inside_part lo hi x0 x1 (int_div_euclid ((x1 -ℤ x0) *ℤ pos (h - h0)) (pos (h1 - h0))) a b
     (part (x1 -ℤ x0) (h - h0) (h1 - h0) (omega arith) (omega arith))
+
+pub between_small : (x0 x1 : ℤ) (h0 h1 h : ℕ) → unsigned_abs x0 ≤ 150000 → unsigned_abs x1 ≤ 150000 → h0 ≤ h → h < h1 → unsigned_abs (between x0 x1 h0 h1 h) ≤ 150000
+between_small x0 x1 h0 h1 h p q r s =
+    let i = between_inside {lo = negsuc 149999} {hi = pos 150000} x0 x1 h0 h1 h (omega arith) (omega arith) (record { low = omega (arith, ints); high = omega (arith, ints) }) (record { low = omega (arith, ints); high = omega (arith, ints) }) in
+    omega (arith, ints)

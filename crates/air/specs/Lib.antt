@@ -5,4 +5,3 @@ pub mod Days
 pub mod Laws
 pub mod BetweenLemmas
 pub mod Entries
-pub mod Every

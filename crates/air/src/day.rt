@@ -12,6 +12,7 @@ pub trait Day {
     ghost air: { Self → Air };
 
     // Density in 10⁻⁵ kg/m³ and deviation from standard temperature in 0.01 K at an altitude in feet.
+    // The pair is the form that the project asks a day to answer in.
     fn at(&self, altitude: u64) -> Result<(u64, i64), Refusal>
         ensures { result ≡ day_answer (air self.now) altitude };
 

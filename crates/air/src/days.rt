@@ -8,13 +8,14 @@ use crate::bench::Bench;
 use crate::day::Day;
 use crate::standard::Standard;
 use refusal::refusal::Refusal;
+use refusal::within::Altitude;
 
 impl Bench {
-    // Refused where density or deviation is out of the bounds of a day.
+    // Refused where density or deviation is out of the bounds of a day. By TryFrom the two would come as a pair with no names.
     pub fn new(density: u64, deviation: i64) -> Result<Bench, Refusal>
         ensures { held result ≡ bench_pair density deviation }
     {
-        if density < 5000 || density > 150000 || deviation < -5000 || deviation > 5000 {
+        if !(5000..=150000).contains(&density) || !(-5000..=5000).contains(&deviation) {
             return Err(Refusal::BenchPair);
         }
         Ok(Bench { density, deviation })
@@ -27,9 +28,7 @@ impl Day for Bench {
     ghost bounded = { bench_laws };
 
     fn at(&self, altitude: u64) -> Result<(u64, i64), Refusal> {
-        if altitude > 60000 {
-            return Err(Refusal::TooHigh);
-        }
+        Altitude::new(altitude).ok_or(Refusal::TooHigh)?;
         Ok((self.density, self.deviation))
     }
 }

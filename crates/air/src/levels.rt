@@ -1,22 +1,36 @@
 // What lies between two neighbouring levels.
-ghost use Rattle.std.specs.Prelude.{◌≡◌, ◌<◌, ◌≤◌, pos};
+ghost use Rattle.std.specs.Prelude.{◌≡◌, ◌-◌, ◌<◌, ◌≤◌, pos, ◌-ℤ◌, ◌*ℤ◌, unsigned_abs};
 ghost use Rattle.std.specs.Int.{int_div_euclid};
-ghost use Rattle.air.specs.Between.{between, Neighbours};
+ghost use Rattle.air.specs.Between.{between};
 
-// A quotient rounded toward minus infinity.
-fn rounded_down(rise: i64, span: u64) -> i64
-    requires above { 0 < span }
-    requires below { span ≤ 60000 }
-    ensures { result ≡ int_div_euclid rise (pos span) }
-{
-    rise.div_euclid(span as i64)
+// An altitude h from a level h0 up to the next level h1, with the values x0 and x1 at the two.
+#[derive(Clone, Copy)]
+pub(crate) struct Between {
+    pub(crate) x0: i64,
+    pub(crate) x1: i64,
+    pub(crate) h0: u64,
+    pub(crate) h1: u64,
+    pub(crate) h: u64,
+    ghost lower: { unsigned_abs x0 ≤ 150000 },
+    ghost upper: { unsigned_abs x1 ≤ 150000 },
+    ghost from: { h0 ≤ h },
+    ghost to: { h < h1 },
+    ghost top: { h1 ≤ 60000 },
 }
 
-// The value at h, from x0 at h0 and x1 at h1, rounded down.
-pub(crate) fn interpolated(x0: i64, x1: i64, h0: u64, h1: u64, h: u64) -> i64
-    requires { Neighbours x0 x1 h0 h1 h }
-    ensures { result ≡ between x0 x1 h0 h1 h }
-{
-    let rise = (x1 - x0) * (h - h0) as i64;
-    x0 + rounded_down(rise, h1 - h0)
+impl Between {
+    // What h adds to the value at h0, rounded down.
+    fn rise(self) -> i64
+        ensures { result ≡ int_div_euclid ((self.x1 -ℤ self.x0) *ℤ pos (self.h - self.h0)) (pos (self.h1 - self.h0)) }
+    {
+        let rise = (self.x1 - self.x0) * (self.h - self.h0) as i64;
+        rise.div_euclid((self.h1 - self.h0) as i64)
+    }
+
+    // The value at h.
+    pub(crate) fn value(self) -> i64
+        ensures { result ≡ between self.x0 self.x1 self.h0 self.h1 self.h }
+    {
+        self.x0 + self.rise()
+    }
 }

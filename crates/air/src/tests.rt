@@ -2,24 +2,42 @@
 use crate::bench::Bench;
 use crate::day::Day;
 use crate::days::AnyDay;
-use crate::levels::interpolated;
+use crate::levels::Between;
 use crate::standard::Standard;
 use refusal::refusal::Refusal;
 use std::test::Fail;
 
-// The number by which a pair is refused, or 0.
-fn refusal_of(density: u64, deviation: i64) -> u8 {
-    match Bench::new(density, deviation) {
-        Ok(_) => 0,
-        Err(refusal) => u8::from(refusal),
-    }
+// The number by which a pair is refused.
+fn refusal_of(density: u64, deviation: i64) -> Option<u8> {
+    Bench::new(density, deviation).err().map(u8::from)
 }
 
 #[test]
 fn between_two_levels(rt: HostRuntime) {
-    assert_eq!(rt; interpolated(122500, 118000, 0, 1000, 333), 121001);
-    assert_eq!(rt; interpolated(-300, 200, 1000, 1300, 1001), -299);
-    assert_eq!(rt; interpolated(200, -300, 1000, 1300, 1001), 198);
+    let between = Between {
+        x0: 122500,
+        x1: 118000,
+        h0: 0,
+        h1: 1000,
+        h: 333,
+    };
+    assert_eq!(rt; between.value(), 121001);
+    let between = Between {
+        x0: -300,
+        x1: 200,
+        h0: 1000,
+        h1: 1300,
+        h: 1001,
+    };
+    assert_eq!(rt; between.value(), -299);
+    let between = Between {
+        x0: 200,
+        x1: -300,
+        h0: 1000,
+        h1: 1300,
+        h: 1001,
+    };
+    assert_eq!(rt; between.value(), 198);
 }
 
 #[test]
@@ -37,12 +55,12 @@ fn standard_densities(rt: HostRuntime) {
 
 #[test]
 fn bench_pairs(rt: HostRuntime) {
-    assert_eq!(rt; refusal_of(5000, -5000), 0);
-    assert_eq!(rt; refusal_of(150000, 5000), 0);
-    assert_eq!(rt; refusal_of(4999, 0), 11);
-    assert_eq!(rt; refusal_of(150001, 0), 11);
-    assert_eq!(rt; refusal_of(5000, -5001), 11);
-    assert_eq!(rt; refusal_of(150000, 5001), 11);
+    assert_eq!(rt; refusal_of(5000, -5000), None);
+    assert_eq!(rt; refusal_of(150000, 5000), None);
+    assert_eq!(rt; refusal_of(4999, 0), Some(11));
+    assert_eq!(rt; refusal_of(150001, 0), Some(11));
+    assert_eq!(rt; refusal_of(5000, -5001), Some(11));
+    assert_eq!(rt; refusal_of(150000, 5001), Some(11));
 }
 
 #[test]

@@ -9,6 +9,9 @@ use air::standard::Standard;
 use std::io;
 use std::num::saturating_f64_to_u64;
 
+// The levels of the table, 1,000 ft apart.
+const LEVELS: u32 = 61;
+
 // Temperature in K and pressure in Pa at sea level.
 const T0: f64 = 288.15;
 
@@ -46,22 +49,19 @@ fn computed(feet: u32) -> u64 {
 fn answered(feet: u32) -> u64
     ensures { feet ≤ 60000 → result ≡ unsigned_abs (standard_density feet) }
 {
-    match Standard.at(feet as u64) {
-        Ok((density, _)) => density,
-        Err(_) => 0,
-    }
+    Standard.at(feet as u64).map_or(0, |(density, _)| density)
 }
 
 fn main(rt: HostRuntime) -> io::Result<()> {
-    let mut differences = 0u32;
-    for level in 0..61u32 {
+    for level in 0..LEVELS {
         let feet = 1000 * level;
         let table = answered(feet);
         let formula = computed(feet);
         println!(rt; "{feet} {table} {formula}")?;
-        if table != formula {
-            differences = differences.saturating_add(1);
-        }
     }
+    let differences = (0..LEVELS)
+        .map(|level| 1000 * level)
+        .filter(|feet| answered(*feet) != computed(*feet))
+        .count();
     println!(rt; "differences: {differences}")
 }

@@ -1,12 +1,12 @@
 -- How large the whole-number formulas get within the ranges of the coefficients.
-use Rattle.std.specs.Prelude.{ℕ, ◌-◌, ◌*◌, ◌/◌, ◌^◌, ◌≤◌}
-use Rattle.std.proofs.Common.{mul-le-mul, mul-le-mul_left, sub-le, arith}
+use Rattle.std.specs.Prelude.{ℕ, ◌*◌, ◌/◌, ◌^◌, ◌≤◌}
+use Rattle.std.proofs.Common.{mul-le-mul, arith}
 use Rattle.std.proofs.Math.Nat.{div-le_of_le-mul}
-use Rattle.aircraft.specs.declared.record.Fuel.{Fuel}
+use Rattle.std.proofs.lemmas.Nat.{rows}
 use Rattle.aircraft.specs.declared.record.JetCoefficients.{JetCoefficients}
 use Rattle.aircraft.specs.declared.record.TurbopropCoefficients.{TurbopropCoefficients}
 use Rattle.engine.specs.Jets.{jet_rise}
-use Rattle.engine.specs.Turboprops.{propeller_thrust, propeller_consumption}
+use Rattle.engine.specs.Turboprops.{propeller_thrust}
 
 pub product : {a b : ℕ} (m n : ℕ) → a ≤ m → b ≤ n → a * b ≤ m * n
 product m n p q = mul-le-mul p q
@@ -16,19 +16,16 @@ quotient a b n p = div-le_of_le-mul b p
 
 -- a share of a, in proportion to d of b
 pub share : (a d b : ℕ) → d ≤ b → a * d / b ≤ a
-share a d b p = quotient (a * d) b a (omega (arith, mul-le-mul_left a p))
+share a d b p = grind (arith, rows)
 
 pub rise_high : (c : JetCoefficients) (h : ℕ) → h ≤ 60000 → jet_rise c h ≤ 3599964000
 rise_high c h p =
-    quotient (c.ctc3 * (h * h)) (10 ^ 7) 3599964000 (product 9999900 3600000000 c.ctc3_most (product 60000 60000 p p))
+    let m = c.ctc3_most in grind (arith, rows)
 
 pub propeller_thrust_high : (c : TurbopropCoefficients) (v : ℕ) → 300 ≤ v → propeller_thrust c v ≤ 3333300000
 propeller_thrust_high c v p =
-    quotient (10 * c.ctc1) v 3333300000 (omega (arith, c.ctc1_most))
+    let m = c.ctc1_most in grind (arith, rows)
 
 -- what is left of it at an altitude
 pub propelled_high : (a k : ℕ) → a ≤ 3333300000 → k ≤ 10 ^ 9 → a * k / 10 ^ 9 ≤ 3333300000
-propelled_high a k p q = quotient (a * k) (10 ^ 9) 3333300000 (omega (arith, product 3333300000 (10 ^ 9) p q))
-
-pub propeller_consumption_high : (f : Fuel) (v : ℕ) → propeller_consumption f v ≤ 1000000000
-propeller_consumption_high f v = omega (arith, f.cf1_most, share f.cf1 (f.cf2 - 10 * v) f.cf2 (sub-le f.cf2 (10 * v)))
+propelled_high a k p q = grind (arith, rows)

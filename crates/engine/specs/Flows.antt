@@ -1,16 +1,17 @@
 -- The laws of nominal and idle flow, for any specific consumption that is within 2 of its exact value.
-use Rattle.std.specs.Prelude.{ℕ, ◌-◌, ◌*◌, ◌^◌, ◌≤◌, [], ◌∷◌}
+use Rattle.std.specs.Prelude.{ℕ, ◌-◌, ◌^◌, ◌≤◌, [], ◌∷◌}
 use Rattle.std.proofs.Common.{sub-le, arith}
+use Rattle.std.proofs.lemmas.Nat.{rows}
 use Rattle.exact.specs.Rational.{ℚ, nat, ◌-ℚ◌, ◌*ℚ◌, ◌÷ℚ◌, ◌≤ℚ◌, Near}
 use Rattle.exact.proofs.Laws.{≤_trans, ≈→≤, nat-<, nat-≥0, nat_monus, *_comm, *-−, *-≥0, *_mono_left, *_mono₂, ÷-≤, ÷-≥0, ÷_mono, shrink, left_max, near_same}
 use Rattle.exact.proofs.Linear.{linear, at, con, ◌⊖◌, ◌⊛◌, ◌≼◌, ◌≋◌}
 use Rattle.aircraft.specs.declared.record.Fuel.{Fuel}
 use Rattle.engine.specs.Formulas.{flow_of, exact_flow_of, idle_flow, exact_idle_flow}
-use Rattle.engine.specs.Bounds.{product, quotient, share}
+use Rattle.engine.specs.Bounds.{share}
 use Rattle.engine.specs.Rounding.{near_times, times_near}
 
 pub flow_high : (e n : ℕ) → e ≤ 400000000 → n ≤ 10 ^ 10 → flow_of e n ≤ 10 ^ 11
-flow_high e n p q = quotient (e * n) (10 ^ 8) (10 ^ 11) (omega (arith, product 400000000 (10 ^ 10) p q))
+flow_high e n p q = grind (arith, rows)
 
 pub flow_near : (e : ℕ) (y : ℚ) (n : ℕ) → n ≤ 10 ^ 10 → Near (nat e) y (nat 2) → Near (nat (flow_of e n)) (exact_flow_of y (nat n)) (nat 250)
 unfolding exact_flow_of

@@ -29,15 +29,23 @@ idle_flow f h = f.cf3 * (f.cf4 - h) / f.cf4
 unfoldable pub exact_idle_flow : Fuel → ℕ → ℚ
 exact_idle_flow f h = nat f.cf3 *ℚ maxℚ (nat 0) (nat f.cf4 -ℚ nat h) ÷ℚ nat f.cf4
 
+-- what sets one kind apart from another: thrust at an altitude and a speed, specific consumption at a speed, and the fuel coefficients
+pub record KindFormulas : Type 0 where
+  pub fuel : Fuel
+  pub thrust : ℕ → ℕ → ℕ
+  pub exact_thrust : ℕ → ℕ → ℚ
+  pub consumption : ℕ → ℕ
+  pub exact_consumption : ℕ → ℚ
+
 -- the kind with this thrust and specific consumption, and idle flow by Cf3 and Cf4
-abbrev pub burning : Fuel → (thrust : ℕ → ℕ → ℕ) (exact_thrust : ℕ → ℕ → ℚ) (consumption : ℕ → ℕ) (exact_consumption : ℕ → ℚ) → KindMeaning
-burning f thrust exact_thrust consumption exact_consumption =
+abbrev pub burning : KindFormulas → KindMeaning
+burning k =
     record {
-      thrust = thrust;
-      nominal = λ v n. flow_of (consumption v) n;
-      idle = idle_flow f;
-      exact_thrust = exact_thrust;
-      exact_nominal = λ v x. exact_flow_of (exact_consumption v) x;
-      exact_idle = exact_idle_flow f;
-      refuses = λ v. too_thirsty (consumption v);
+      thrust = k.thrust;
+      nominal = λ v n. flow_of (k.consumption v) n;
+      idle = idle_flow k.fuel;
+      exact_thrust = k.exact_thrust;
+      exact_nominal = λ v x. exact_flow_of (k.exact_consumption v) x;
+      exact_idle = exact_idle_flow k.fuel;
+      refuses = λ v. too_thirsty (k.consumption v);
     }

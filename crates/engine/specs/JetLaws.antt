@@ -1,27 +1,25 @@
 -- A jet keeps the laws of a kind.
 use Rattle.std.specs.Prelude.{ℕ, ◌+◌, ◌*◌, ◌^◌, ◌≤◌}
 use Rattle.std.proofs.Common.{arith}
+use Rattle.std.proofs.lemmas.Nat.{rows}
 use Rattle.exact.specs.Rational.{nat, ◌*ℚ◌, ◌≤ℚ◌, Near}
 use Rattle.exact.proofs.Laws.{nat-<, nat-≥0, nat-≤, *-≥0, ÷-≥0, near_weaken, near_floor}
 use Rattle.aircraft.specs.declared.record.Fuel.{Fuel}
 use Rattle.aircraft.specs.declared.record.JetCoefficients.{JetCoefficients}
 use Rattle.engine.specs.Meaning.{KindLaws}
-use Rattle.engine.specs.Formulas.{thrust_factor, exact_thrust_factor}
-use Rattle.engine.specs.Jets.{jet_rise, exact_jet_rise, jet_thrust, exact_jet_thrust, jet_consumption, exact_jet_consumption, jet_engine}
-use Rattle.engine.specs.Bounds.{product, quotient, rise_high}
+use Rattle.engine.specs.Formulas.{exact_thrust_factor}
+use Rattle.engine.specs.Jets.{jet_rise, exact_jet_rise, jet_thrust, exact_jet_thrust, jet_consumption, exact_jet_consumption, jet_formulas, jet_engine}
+use Rattle.engine.specs.Bounds.{rise_high}
 use Rattle.engine.specs.Rounding.{times_near}
 use Rattle.engine.specs.Factor.{factor_near, factor_low}
-use Rattle.engine.specs.Laws.{burning_laws}
+use Rattle.engine.specs.Laws.{FormulasClose, burning_laws}
 
 rise_near : (c : JetCoefficients) (h : ℕ) → Near (nat (jet_rise c h)) (exact_jet_rise c h) (nat 1)
 unfolding exact_jet_rise
 rise_near c h = near_floor (c.ctc3 * (h * h)) (10 ^ 7) (omega arith)
 
 thrust_high : (c : JetCoefficients) (h : ℕ) → h ≤ 60000 → jet_thrust c h ≤ 9999999990
-thrust_high c h p = quotient (c.ctc1 * thrust_factor c.ctc2 (jet_rise c h) h) (10 ^ 9) 9999999990 (omega (arith, product 2000000000 4599964000 c.ctc1_most factor_high))
-  where
-    factor_high : thrust_factor c.ctc2 (jet_rise c h) h ≤ 4599964000
-    factor_high = omega (arith, rise_high c h p)
+thrust_high c h p = let m = c.ctc1_most in let r = rise_high c h p in grind (arith, rows)
 
 thrust_near : (c : JetCoefficients) (h : ℕ) → Near (nat (jet_thrust c h)) (exact_jet_thrust c h) (nat 10)
 unfolding exact_jet_thrust
@@ -41,8 +39,12 @@ consumption_low : (f : Fuel) (v : ℕ) → nat 0 ≤ℚ exact_jet_consumption f 
 unfolding exact_jet_consumption
 consumption_low f v = ÷-≥0 (nat-< (omega (arith, f.cf2_least))) (nat-≥0 (f.cf1 * (f.cf2 + 10 * v)))
 
+pub jet_close : (c : JetCoefficients) → FormulasClose (jet_formulas c)
+jet_close c =
+    record {
+      thrust = λ h v p q. record { high = thrust_high c h p; near = thrust_near c h; low = thrust_low c h };
+      consumption = λ v p. record { near = consumption_near c.fuel v; low = consumption_low c.fuel v };
+    }
+
 pub jet_laws : (c : JetCoefficients) → KindLaws (jet_engine c)
-jet_laws c =
-    burning_laws c.fuel _ _ _ _
-    (λ h v p q. record { high = thrust_high c h p; near = thrust_near c h; low = thrust_low c h })
-    (λ v p. record { near = consumption_near c.fuel v; low = consumption_low c.fuel v })
+jet_laws c = burning_laws (jet_formulas c) (jet_close c)

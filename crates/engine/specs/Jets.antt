@@ -4,7 +4,7 @@ use Rattle.exact.specs.Rational.{ℚ, nat, ◌*ℚ◌, ◌÷ℚ◌}
 use Rattle.aircraft.specs.declared.record.Fuel.{Fuel}
 use Rattle.aircraft.specs.declared.record.JetCoefficients.{JetCoefficients}
 use Rattle.engine.specs.Meaning.{KindMeaning}
-use Rattle.engine.specs.Formulas.{thrust_factor, exact_thrust_factor, burning}
+use Rattle.engine.specs.Formulas.{thrust_factor, exact_thrust_factor, KindFormulas, burning}
 
 -- what CTc3 adds to the thrust factor, in 10⁻⁹
 abbrev pub jet_rise : JetCoefficients → ℕ → ℕ
@@ -26,6 +26,15 @@ jet_consumption f v = f.cf1 * (f.cf2 + 10 * v) / f.cf2
 unfoldable pub exact_jet_consumption : Fuel → ℕ → ℚ
 exact_jet_consumption f v = nat (f.cf1 * (f.cf2 + 10 * v)) ÷ℚ nat f.cf2
 
+abbrev pub jet_formulas : JetCoefficients → KindFormulas
+jet_formulas c =
+    record {
+      fuel = c.fuel;
+      thrust = λ h v. jet_thrust c h;
+      exact_thrust = λ h v. exact_jet_thrust c h;
+      consumption = jet_consumption c.fuel;
+      exact_consumption = exact_jet_consumption c.fuel;
+    }
+
 abbrev pub jet_engine : JetCoefficients → KindMeaning
-jet_engine c =
-    burning c.fuel (λ h v. jet_thrust c h) (λ h v. exact_jet_thrust c h) (jet_consumption c.fuel) (exact_jet_consumption c.fuel)
+jet_engine c = burning (jet_formulas c)

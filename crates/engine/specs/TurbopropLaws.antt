@@ -8,11 +8,11 @@ use Rattle.aircraft.specs.declared.record.Fuel.{Fuel}
 use Rattle.aircraft.specs.declared.record.TurbopropCoefficients.{TurbopropCoefficients}
 use Rattle.engine.specs.Meaning.{KindLaws}
 use Rattle.engine.specs.Formulas.{thrust_factor, exact_thrust_factor}
-use Rattle.engine.specs.Turboprops.{not_below_zero, propeller_thrust, exact_propeller_thrust, turboprop_thrust, exact_turboprop_thrust, propeller_consumption, exact_propeller_consumption, turboprop_consumption, exact_turboprop_consumption, turboprop_engine}
+use Rattle.engine.specs.Turboprops.{not_below_zero, propeller_thrust, exact_propeller_thrust, turboprop_thrust, exact_turboprop_thrust, propeller_consumption, exact_propeller_consumption, turboprop_consumption, exact_turboprop_consumption, turboprop_formulas, turboprop_engine}
 use Rattle.engine.specs.Bounds.{propeller_thrust_high, propelled_high}
 use Rattle.engine.specs.Rounding.{near_over, near_times, times_near, near_high}
 use Rattle.engine.specs.Factor.{factor_near}
-use Rattle.engine.specs.Laws.{burning_laws}
+use Rattle.engine.specs.Laws.{FormulasClose, burning_laws}
 
 above_zero : (z : ℤ) → nat (not_below_zero z) ≈ maxℚ (nat 0) (int z)
 above_zero (pos n) = omega arith
@@ -83,8 +83,12 @@ module _ (f : Fuel) (v : ℕ) where
   unfolding exact_turboprop_consumption
   consumption_low = ÷-≥0 {x = exact_propeller_consumption f v *ℚ nat v} {y = nat (10 ^ 4)} (nat-< {b = 10 ^ 4} (omega arith)) (*-≥0 propeller_consumption_low (nat-≥0 v))
 
+pub turboprop_close : (c : TurbopropCoefficients) → FormulasClose (turboprop_formulas c)
+turboprop_close c =
+    record {
+      thrust = λ h v p q. record { high = thrust_high c h v q; near = thrust_near c h v q; low = thrust_low c h v q };
+      consumption = λ v p. record { near = consumption_near c.fuel v p; low = consumption_low c.fuel v };
+    }
+
 pub turboprop_laws : (c : TurbopropCoefficients) → KindLaws (turboprop_engine c)
-turboprop_laws c =
-    burning_laws c.fuel _ _ _ _
-    (λ h v p q. record { high = thrust_high c h v q; near = thrust_near c h v q; low = thrust_low c h v q })
-    (λ v p. record { near = consumption_near c.fuel v p; low = consumption_low c.fuel v })
+turboprop_laws c = burning_laws (turboprop_formulas c) (turboprop_close c)

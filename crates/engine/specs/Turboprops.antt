@@ -4,7 +4,7 @@ use Rattle.exact.specs.Rational.{ℚ, nat, int, ◌+ℚ◌, ◌-ℚ◌, ◌*ℚ�
 use Rattle.aircraft.specs.declared.record.Fuel.{Fuel}
 use Rattle.aircraft.specs.declared.record.TurbopropCoefficients.{TurbopropCoefficients}
 use Rattle.engine.specs.Meaning.{KindMeaning}
-use Rattle.engine.specs.Formulas.{thrust_factor, exact_thrust_factor, burning}
+use Rattle.engine.specs.Formulas.{thrust_factor, exact_thrust_factor, KindFormulas, burning}
 
 -- a number, or 0 where it is negative
 abbrev pub not_below_zero : ℤ → ℕ
@@ -40,6 +40,15 @@ turboprop_consumption f v = propeller_consumption f v * v / 10 ^ 4
 unfoldable pub exact_turboprop_consumption : Fuel → ℕ → ℚ
 exact_turboprop_consumption f v = exact_propeller_consumption f v *ℚ nat v ÷ℚ nat (10 ^ 4)
 
+abbrev pub turboprop_formulas : TurbopropCoefficients → KindFormulas
+turboprop_formulas c =
+    record {
+      fuel = c.fuel;
+      thrust = turboprop_thrust c;
+      exact_thrust = exact_turboprop_thrust c;
+      consumption = turboprop_consumption c.fuel;
+      exact_consumption = exact_turboprop_consumption c.fuel;
+    }
+
 abbrev pub turboprop_engine : TurbopropCoefficients → KindMeaning
-turboprop_engine c =
-    burning c.fuel (turboprop_thrust c) (exact_turboprop_thrust c) (turboprop_consumption c.fuel) (exact_turboprop_consumption c.fuel)
+turboprop_engine c = burning (turboprop_formulas c)

@@ -17,11 +17,11 @@ pub enum AnyKind {
     Turboprop(Turboprop),
 }
 
-impl AnyKind {
-    // The engine of an aircraft.
-    pub fn of(aircraft: &Aircraft) -> AnyKind
-        ensures { any_engine result ≡ engine_of aircraft.now }
-    {
+// The engine of an aircraft.
+impl From<&Aircraft> for AnyKind {
+    ghost from_gives = { λ a k. any_engine k ≡ engine_of a.now };
+
+    fn from(aircraft: &Aircraft) -> AnyKind {
         match aircraft.engine {
             Engine::Jet(coefficients) => AnyKind::Jet(Jet { coefficients }),
             Engine::Turboprop(coefficients) => AnyKind::Turboprop(Turboprop { coefficients }),

@@ -6,7 +6,7 @@ use refusal::refusal::Refusal;
 
 // A new kind gives `engine`, its meaning (specs/Meaning.antt): answered and exact values and the speeds at which it refuses nominal flow.
 // It proves `lawful`, and that each of the three questions answers as its meaning says; the order of refusals is part of that.
-// Whatever is generic over kinds then holds of it too.
+// Whatever is generic over kinds then holds of it too. The questions take plain numbers, the form that the project asks of a kind.
 pub trait Kind {
     ghost engine: { Self → KindMeaning };
 

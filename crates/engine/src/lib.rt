@@ -5,6 +5,7 @@ pub mod any;
 mod asked;
 pub mod examples;
 mod formulas;
+mod installed;
 pub mod jet;
 pub mod kind;
 #[cfg(test)]

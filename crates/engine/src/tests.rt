@@ -9,17 +9,7 @@ use std::process::Abort;
 
 fn sample() -> Jet {
     Jet {
-        coefficients: JetCoefficients {
-            ctc1: 150000000,
-            ctc2: 50000,
-            ctc3: 1000000,
-            fuel: Fuel {
-                cf1: 70000000,
-                cf2: 100000,
-                cf3: 12000000,
-                cf4: 100000,
-            },
-        },
+        coefficients: sample_jet::coefficients(),
     }
 }
 

@@ -4,82 +4,13 @@ use crate::hop::fly_hop;
 use crate::reading::Reading;
 use crate::start::Start;
 use air::bench::Bench;
-use aircraft::record::{
-    Aircraft, Descent, Engine, Fuel, JetCoefficients, Masses, Row, Rows, Temperature,
-};
+use aircraft::record::{Fuel, JetCoefficients};
 use aircraft::words::Configuration;
 use engine::jet::Jet;
 use leg::figures::Figures;
 use leg::flown::Flown;
 use refusal::refusal::Refusal;
 use std::test::Fail;
-
-fn sample_jet() -> JetCoefficients {
-    JetCoefficients {
-        ctc1: 150000000,
-        ctc2: 50000,
-        ctc3: 1000000,
-        fuel: Fuel {
-            cf1: 70000000,
-            cf2: 100000,
-            cf3: 12000000,
-            cf4: 100000,
-        },
-    }
-}
-
-fn sample() -> Aircraft {
-    Aircraft {
-        engine: Engine::Jet(sample_jet()),
-        masses: Masses {
-            reference: 60000000,
-            minimum: 40000000,
-            maximum: 80000000,
-        },
-        ceiling: 40000,
-        wing: 100000,
-        rows: Rows {
-            cruise: Row {
-                stall: 140000,
-                cd0: 2000000,
-                cd2: 4000000,
-            },
-            initial: Row {
-                stall: 117000,
-                cd0: 3305700,
-                cd2: 4536200,
-            },
-            takeoff: Row {
-                stall: 117000,
-                cd0: 3305700,
-                cd2: 4536200,
-            },
-            approach: Row {
-                stall: 115000,
-                cd0: 3803100,
-                cd2: 4493200,
-            },
-            landing: Row {
-                stall: 97000,
-                cd0: 7893500,
-                cd2: 4482200,
-            },
-        },
-        gear: 2250000,
-        temperature: Temperature {
-            ctc4: 100000,
-            ctc5: 500000,
-        },
-        descent: Descent {
-            low: 730000,
-            high: 2060000,
-            level: 8000,
-            approach: 12000000,
-            landing: 36000000,
-        },
-        cruise: 100000,
-    }
-}
 
 fn figures(altitude: u64, speed: u64, calibrated: u64, seconds: u64) -> Figures {
     Figures {
@@ -133,7 +64,7 @@ fn thirsty() -> Jet {
 
 fn with_kind(kind: Jet, fuel: u64) -> Result<Flight<Jet, Bench>, Refusal> {
     Flight::start(
-        sample(),
+        sample_jet::aircraft(),
         kind,
         Bench::new(45000, 0)?,
         load(50000000, fuel, None),
@@ -143,7 +74,7 @@ fn with_kind(kind: Jet, fuel: u64) -> Result<Flight<Jet, Bench>, Refusal> {
 fn on_stand() -> Result<Flight<Jet, Bench>, Refusal> {
     with_kind(
         Jet {
-            coefficients: sample_jet(),
+            coefficients: sample_jet::coefficients(),
         },
         10000000,
     )
@@ -162,7 +93,7 @@ fn number<T: Drop>(answer: Result<T, Refusal>) -> Option<u8> {
 
 fn starting(zero_fuel: u64, fuel: u64, reserve: Option<u64>) -> Result<Option<u8>, Refusal> {
     Ok(number(Flight::start(
-        sample(),
+        sample_jet::aircraft(),
         sipping(),
         Bench::new(45000, 0)?,
         load(zero_fuel, fuel, reserve),
@@ -172,7 +103,7 @@ fn starting(zero_fuel: u64, fuel: u64, reserve: Option<u64>) -> Result<Option<u8
 // Whether the mark is up at the start, with 10 t of fuel.
 fn marked(reserve: Option<u64>) -> Result<bool, Refusal> {
     let flight = Flight::start(
-        sample(),
+        sample_jet::aircraft(),
         sipping(),
         Bench::new(45000, 0)?,
         load(50000000, 10000000, reserve),
@@ -250,9 +181,9 @@ fn sample_legs(rt: HostRuntime) -> Result<(), Fail> {
 #[test]
 fn sample_hop(rt: HostRuntime) -> Result<(), Fail> {
     let hop = fly_hop(
-        sample(),
+        sample_jet::aircraft(),
         Jet {
-            coefficients: sample_jet(),
+            coefficients: sample_jet::coefficients(),
         },
         Bench::new(45000, 0)?,
         50000000,
@@ -403,7 +334,7 @@ fn refused_legs(rt: HostRuntime) -> Result<(), Fail> {
     );
     let mut short = with_kind(
         Jet {
-            coefficients: sample_jet(),
+            coefficients: sample_jet::coefficients(),
         },
         1,
     )?;

@@ -1,109 +1,104 @@
 // An entry of the table: a flow as computed and as printed.
-ghost use Rattle.std.specs.Prelude.{◌≡◌};
+ghost use Rattle.std.specs.Prelude.{◌≡◌, ◌/◌};
 ghost use Rattle.fueltable.specs.Table.{difference_of};
 
 use crate::column::Column;
-use crate::row::Row;
+use crate::figures::Thousandths;
+use crate::row::{Cell, Row};
+use air::standard::Standard;
 use aircraft::record::Aircraft;
+use engine::any::AnyKind;
+use flight::flight::Flight;
+use flight::start::Start;
+use leg::figures::Figures;
 use leg::flown::Flown;
 use refusal::refusal::Refusal;
 use std::fmt;
 
-// The speed in 0.1 kt, the printed flow in 0.1 kg/min.
 #[derive(Clone, Copy)]
 pub(crate) struct Entry {
     level: u16,
-    column: Column,
-    speed: u32,
+    cell: Cell,
     outcome: Result<Flown, Refusal>,
-    printed: Option<u32>,
+}
+
+// A leg of one second on the standard day. A flight leaves the stand by a climb, so one second of it comes first.
+fn flown(aircraft: &Aircraft, row: &Row, cell: Cell) -> Result<Flown, Refusal> {
+    let zero_fuel = aircraft.masses.minimum;
+    let start = Start {
+        zero_fuel,
+        fuel: cell.column.mass(aircraft).saturating_sub(zero_fuel),
+        reserve: None,
+    };
+    let climb = Figures {
+        altitude: row.level as u64 * 100,
+        speed: row.climb.0 as u64,
+        calibrated: row.calibrated as u64,
+        seconds: 1,
+    };
+    let mut flight = Flight::start(*aircraft, AnyKind::from(aircraft), Standard, start)?;
+    let climbed = flight.leg(Column::Climb.phase(), climb)?;
+    match cell.column {
+        Column::Climb => Ok(climbed),
+        column => flight.leg(
+            column.phase(),
+            Figures {
+                speed: cell.speed.0 as u64,
+                ..climb
+            },
+        ),
+    }
+}
+
+// The flow in whole g/min.
+fn flow_of(flown: Flown) -> Thousandths
+    ensures { result.0 ≡ flown.flow / 1000 }
+{
+    Thousandths(flown.flow / 1000)
 }
 
 impl Entry {
-    // The entry of a row in a column, where the row has a speed for it.
-    pub(crate) fn new(aircraft: &Aircraft, row: &Row, column: Column) -> Option<Entry> {
-        let speed = column.speed(row)?;
-        let outcome = column.flown(aircraft, row, speed);
-        Some(Entry {
+    pub(crate) fn new(aircraft: &Aircraft, row: &Row, cell: Cell) -> Entry {
+        Entry {
             level: row.level,
-            column,
-            speed,
-            outcome,
-            printed: column.printed(row),
-        })
+            cell,
+            outcome: flown(aircraft, row, cell),
+        }
     }
 
-    // How far the flow is from the printed one, in g/min.
-    pub(crate) fn difference(&self) -> Option<u64>
-        ensures { result ≡ difference_of self.now.outcome self.now.printed }
+    // How far the flow is from the printed one.
+    pub(crate) fn difference(&self) -> Option<Thousandths>
+        ensures { result ≡ difference_of self.now.outcome self.now.cell.printed }
     {
-        match (self.outcome, self.printed) {
-            (Ok(flown), Some(tenths)) => Some((flown.flow / 1000).abs_diff(tenths as u64 * 100)),
-            _ => None,
-        }
+        let flow = flow_of(self.outcome.ok()?);
+        let printed = Thousandths::from(self.cell.printed?);
+        Some(Thousandths(flow.0.abs_diff(printed.0)))
     }
 }
 
+// The computed flow, and beside it the printed one and how far it is above or below that.
 impl fmt::Display for Entry {
     fn fmt<W: fmt::Write>(&self, f: &mut fmt::Formatter<W>) -> fmt::Result {
-        let level = self.level;
-        let name = self.column.name();
-        let knots = self.speed / 10;
-        let tenth = self.speed % 10;
-        write!(f, "FL{level:>4}  {name:<14}  {knots:>3}.{tenth}")?;
-        match self.outcome {
-            Ok(flown) => {
-                let compared = Compared {
-                    flown,
-                    printed: self.printed,
-                };
-                write!(f, "{compared}")
-            }
-            Err(refusal) => { write!(f, "  no {refusal}") }
-        }
-    }
-}
-
-// A flow, and beside it the printed one and their difference.
-#[derive(Clone, Copy)]
-struct Compared {
-    flown: Flown,
-    printed: Option<u32>,
-}
-
-impl fmt::Display for Compared {
-    fn fmt<W: fmt::Write>(&self, f: &mut fmt::Formatter<W>) -> fmt::Result {
-        let configuration = self.flown.configuration;
-        let grams = self.flown.flow / 1000;
-        let whole = grams / 1000;
-        let thousandths = grams % 1000;
-        write!(f, "  {configuration}  {whole:>4}.{thousandths:03}")?;
-        match self.printed {
-            Some(tenths) => write!(f, "{}", Printed { grams, tenths }),
-            None => Ok(()),
-        }
-    }
-}
-
-// A printed flow in 0.1 kg/min, and how far a flow in g/min is above or below it.
-#[derive(Clone, Copy)]
-struct Printed {
-    grams: u64,
-    tenths: u32,
-}
-
-impl fmt::Display for Printed {
-    fn fmt<W: fmt::Write>(&self, f: &mut fmt::Formatter<W>) -> fmt::Result {
-        let whole = self.tenths / 10;
-        let tenth = self.tenths % 10;
-        let expected = self.tenths as u64 * 100;
-        let sign = if self.grams < expected { "-" } else { "+" };
-        let far = self.grams.abs_diff(expected);
-        let kilograms = far / 1000;
-        let thousandths = far % 1000;
-        write!(
-            f,
-            "  {whole:>5}.{tenth}  {sign}{kilograms}.{thousandths:03}"
-        )
+        let Cell {
+            column,
+            speed,
+            printed,
+        } = self.cell;
+        write!(f, "FL{:>4}  {column:<14}  {speed:>5}", self.level)?;
+        let flown = match self.outcome {
+            Ok(flown) => flown,
+            Err(refusal) => return write!(f, "  no {refusal}"),
+        };
+        let flow = flow_of(flown);
+        write!(f, "  {}  {flow:>8}", flown.configuration)?;
+        let (Some(printed), Some(apart)) = (printed, self.difference()) else {
+            return Ok(());
+        };
+        let sign = if flow.0 < Thousandths::from(printed).0 {
+            "-"
+        } else {
+            "+"
+        };
+        write!(f, "  {printed:>7}  {sign}{apart}")
     }
 }

@@ -3,26 +3,18 @@
 
 mod column;
 mod entry;
-mod legs;
+mod figures;
 mod row;
 mod tally;
 
-use crate::column::{COLUMNS, Column};
+use crate::column::Column;
 use crate::entry::Entry;
-use crate::row::row_of;
+use crate::row::Row;
 use crate::tally::Tally;
 use aircraft::record::Aircraft;
-use opf::read::{MOST_BYTES, read};
-use std::io::{BufRead, BufReader, Read};
+use aircraft_file::input::aircraft_from;
+use std::io::{BufRead, BufReader};
 use std::{fs, io};
-
-// One byte more than a file may have tells that it has too many.
-fn bytes_of(rt: &HostRuntime, name: &str) -> io::Result<Vec<u8>> {
-    let mut file = fs::open(rt, name)?.take(MOST_BYTES as u64 + 1);
-    let mut bytes = Vec::new(rt.alloc());
-    file.read_to_end(&mut bytes)?;
-    Ok(bytes)
-}
 
 // The masses, in kg, and the headings.
 fn print_heading(rt: &HostRuntime, aircraft: &Aircraft) -> io::Result<()> {
@@ -41,15 +33,14 @@ fn print_row(
     line: &str,
     tally: &mut Tally,
 ) -> io::Result<()> {
-    let Some(row) = row_of(line) else {
+    let Ok(row) = line.parse::<Row>() else {
         return println!(rt; "no row: {line}");
     };
-    for column in COLUMNS {
-        if let Some(entry) = Entry::new(aircraft, &row, column) {
-            println!(rt; "{entry}")?;
-            if let Some(difference) = entry.difference() {
-                tally.add(row.level, column, difference);
-            }
+    for cell in row.cells.into_iter().flatten() {
+        let entry = Entry::new(aircraft, &row, cell);
+        println!(rt; "{entry}")?;
+        if let Some(difference) = entry.difference() {
+            tally.add(row.level, cell.column, difference);
         }
     }
     Ok(())
@@ -70,19 +61,15 @@ fn print_table(rt: &HostRuntime, aircraft: &Aircraft) -> io::Result<()> {
 
 // The table of the aircraft file in the current folder, or the file's first fault.
 fn run(rt: &HostRuntime) -> io::Result<()> {
-    let bytes = bytes_of(rt, "aircraft.opf")?;
-    match read(bytes.as_slice()) {
+    match aircraft_from(rt.alloc(), fs::open(rt, "aircraft.opf")?)? {
         Ok(aircraft) => print_table(rt, &aircraft),
         Err(fault) => println!(rt; "no {fault}"),
     }
 }
 
 fn main(rt: HostRuntime) -> io::Result<()> {
-    match run(&rt) {
-        Ok(()) => Ok(()),
-        Err(e) => {
-            eprintln!(rt; "fueltable: {e}")?;
-            Err(e)
-        }
-    }
+    run(&rt).or_else(|e| {
+        eprintln!(rt; "fueltable: {e}")?;
+        Err(e)
+    })
 }

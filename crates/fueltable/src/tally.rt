@@ -1,20 +1,28 @@
 // How far computed flows lie from the printed ones.
 ghost use Rattle.std.specs.Prelude.{◌≤◌};
+ghost use Rattle.fueltable.specs.Table.{farthest};
 
 use crate::column::Column;
+use crate::figures::Thousandths;
 use std::fmt;
 
-// The farthest that a computed flow may lie from the printed one, in g/min.
-const ALLOWED: u64 = 200;
+// The farthest that a computed flow may lie from the printed one.
+const ALLOWED: Thousandths = Thousandths(200);
 
-// How many flows were compared, how many of them are near enough, and where the worst difference was last met, in g/min.
+// Where the worst difference was last met.
+#[derive(Clone, Copy)]
+struct Worst {
+    difference: Thousandths,
+    level: u16,
+    column: Column,
+}
+
+// How many flows were compared, how many of them are near enough, and the worst of them.
 #[derive(Clone, Copy)]
 pub(crate) struct Tally {
     compared: u64,
     near: u64,
-    worst: u64,
-    level: u16,
-    column: Column,
+    worst: Option<Worst>,
 }
 
 impl Tally {
@@ -22,47 +30,44 @@ impl Tally {
         Tally {
             compared: 0,
             near: 0,
-            worst: 0,
-            level: 0,
-            column: Column::Low,
+            worst: None,
         }
     }
 
-    // Counts a difference in g/min. None that was counted is greater than the worst.
-    pub(crate) fn add(&mut self, level: u16, column: Column, difference: u64)
-        ensures counted { difference ≤ self.new.worst }
-        ensures kept { self.old.worst ≤ self.new.worst }
+    // None that was counted is greater than the worst.
+    pub(crate) fn add(&mut self, level: u16, column: Column, difference: Thousandths)
+        ensures counted { difference.0 ≤ farthest self.new }
+        ensures kept { farthest self.old ≤ farthest self.new }
     {
         self.compared = self.compared.saturating_add(1);
-        if difference <= ALLOWED {
+        if difference.0 <= ALLOWED.0 {
             self.near = self.near.saturating_add(1);
         }
-        if difference >= self.worst {
-            self.worst = difference;
-            self.level = level;
-            self.column = column;
-        }
+        self.worst = self
+            .worst
+            .filter(|worst| difference.0 < worst.difference.0)
+            .or(Some(Worst {
+                difference,
+                level,
+                column,
+            }));
     }
 }
 
 impl fmt::Display for Tally {
     fn fmt<W: fmt::Write>(&self, f: &mut fmt::Formatter<W>) -> fmt::Result {
-        if self.compared == 0 {
+        let Some(worst) = self.worst else {
             return write!(f, "compared 0\n");
-        }
-        let compared = self.compared;
-        let near = self.near;
-        let whole = self.worst / 1000;
-        let thousandths = self.worst % 1000;
-        let level = self.level;
-        let name = self.column.name();
+        };
         write!(
             f,
-            "compared {compared}, within 0.200 of the printed flow {near}\n"
+            "compared {}, within {ALLOWED} of the printed flow {}\n",
+            self.compared, self.near
         )?;
         write!(
             f,
-            "worst difference {whole}.{thousandths:03}, at FL {level} in {name}\n"
+            "worst difference {}, at FL {} in {}\n",
+            worst.difference, worst.level, worst.column
         )
     }
 }

@@ -1,82 +1,42 @@
-// Weight, wing force and drag.
-ghost use Rattle.std.specs.Prelude.{◌≡◌, ◌*◌, ◌/◌, ◌≤◌, if◌then◌else◌, Ok, Err};
+// The drag pair of a leg, and its drag.
+ghost use Rattle.std.specs.Prelude.{◌≡◌, ℕ, ◌≤◌, if◌then◌else◌, Ok, Err};
 ghost use Rattle.refusal.specs.declared.refusal.Refusal.TheVariants.{Lift};
-ghost use Rattle.leg.specs.Rules.{dynamic_pressure, wing_force, weight, lifts, parasitic_drag, induced_drag, drag_of};
+ghost use Rattle.leg.specs.Rules.{weight, lifts, drag_of};
 
 use crate::mass::Mass;
 use refusal::refusal::Refusal;
+use std::marker::Model;
 
-// In 10⁻⁶ Pa.
-fn pressure(density: u64, speed: u64) -> u64
-    requires density { density ≤ 150000 }
-    requires speed { speed ≤ 7000 }
-    ensures value { result ≡ dynamic_pressure density speed }
-    ensures bound { result ≤ 97260009259 }
-{
-    density * (speed * speed) * 214369 / 16200000
+// CD0, a gear's included, and CD2, in 10⁻⁸.
+#[derive(Clone, Copy)]
+pub(crate) struct Coefficients {
+    pub(crate) cd0: u64,
+    pub(crate) cd2: u64,
 }
 
-// Dynamic pressure on the wing area, in mN.
-pub(crate) fn force(density: u64, speed: u64, wing: u64) -> u64
-    requires density { density ≤ 150000 }
-    requires speed { speed ≤ 7000 }
-    requires wing { wing ≤ 1000000 }
-    ensures value { result ≡ wing_force (dynamic_pressure density speed) wing }
-    ensures bound { result ≤ 97260009259 }
-{
-    pressure(density, speed) * wing / 1000000
+impl Model for Coefficients {
+    ghost Value = { ℕ × ℕ };
+
+    ghost view = { λ c. (c.cd0, c.cd2) };
+
+    ghost invariant = { λ c. (c.cd0 ≤ 94000000) × (c.cd2 ≤ 47000000) };
+
+    ghost inverse = { λ pair. record { cd0 = pair.0; cd2 = pair.1 } };
 }
 
-// In 10 mN.
-fn weight_of(mass: Mass) -> u64
-    ensures value { result ≡ weight mass.milligrams }
-    ensures light { 196133 ≤ result }
-    ensures heavy { result ≤ 882598500 }
-{
-    mass.milligrams / 1000 * 980665 / 1000000
-}
-
-fn parasitic(cd0: u64, force: u64) -> u64
-    requires coefficient { cd0 ≤ 94000000 }
-    requires force { force ≤ 97260009259 }
-    ensures value { result ≡ parasitic_drag cd0 force }
-    ensures bound { result ≤ 91424408703 }
-{
-    cd0 * force / 100000000
-}
-
-// Ten times the weight's square over the force: at most three times the weight, since the wing lifts it.
-fn loading(weight: u64, force: u64) -> u64
-    requires light { 196133 ≤ weight }
-    requires heavy { weight ≤ 882598500 }
-    requires lifted { 10 * weight ≤ 3 * force }
-    ensures value { result ≡ 10 * (weight * weight) / force }
-    ensures bound { result ≤ 2647795500 }
-{
-    10 * (weight * weight) / force
-}
-
-fn induced(cd2: u64, weight: u64, force: u64) -> u64
-    requires coefficient { cd2 ≤ 47000000 }
-    requires light { 196133 ≤ weight }
-    requires heavy { weight ≤ 882598500 }
-    requires lifted { 10 * weight ≤ 3 * force }
-    ensures value { result ≡ induced_drag cd2 weight force }
-    ensures bound { result ≤ 12444638850 }
-{
-    cd2 * loading(weight, force) / 10000000
-}
-
-// Drag in mN over a drag pair, refused where the wing does not lift the weight.
-pub(crate) fn drag(pair: (u64, u64), mass: Mass, force: u64) -> Result<u64, Refusal>
-    requires parasitic { pair.0 ≤ 94000000 }
-    requires induced { pair.1 ≤ 47000000 }
-    requires force { force ≤ 97260009259 }
-    ensures { result ≡ (if lifts (weight mass.milligrams) force then Ok (drag_of pair (weight mass.milligrams) force) else Err Lift) }
-{
-    let weight = weight_of(mass);
-    if 10 * weight > 3 * force {
-        return Err(Refusal::Lift);
+impl Coefficients {
+    // In mN, with a wing's force in mN; refused where the wing does not lift the weight.
+    pub(crate) fn drag(self, mass: Mass, force: u64) -> Result<u64, Refusal>
+        requires { force ≤ 97260009259 }
+        ensures { result ≡ (if lifts (weight mass.milligrams) force then Ok (drag_of self (weight mass.milligrams) force) else Err Lift) }
+    {
+        let weight = mass.milligrams / 1000 * 980665 / 1000000;
+        if 10 * weight > 3 * force {
+            return Err(Refusal::Lift);
+        }
+        let parasitic = self.cd0 * force / 100000000;
+        let loading = 10 * (weight * weight) / force;
+        let induced = self.cd2 * loading / 10000000;
+        Ok(parasitic + induced)
     }
-    Ok(parasitic(pair.0, force) + induced(pair.1, weight, force))
 }

@@ -1,89 +1,45 @@
-// The flow that a leg uses, and what it burns.
+// The flow that a leg uses.
 ghost use Rattle.std.specs.Prelude.{◌≡◌, ◌≤◌, IfOk, if◌then◌else◌, Ok, Err};
 ghost use Rattle.refusal.specs.declared.refusal.Refusal.TheVariants.{Flow};
 ghost use Rattle.leg.specs.Requests.{figures_of};
-ghost use Rattle.leg.specs.Rules.{cruise_flow, burned};
 ghost use Rattle.leg.specs.Legs.{flow_answer};
 
-use crate::configurations::by_thrust;
+use crate::leg::Leg;
 use crate::phase::Phase;
-use crate::request::Request;
-use aircraft::record::Aircraft;
+use crate::thrust::Thrust;
 use aircraft::words::Configuration;
 use engine::kind::Kind;
 use refusal::refusal::Refusal;
 
-// A nominal flow by the cruise factor.
-fn cruising(nominal: u64, factor: u64) -> u64
-    requires nominal { nominal ≤ 100000000000 }
-    requires factor { factor ≤ 200000 }
-    ensures value { result ≡ cruise_flow nominal factor }
-    ensures bound { result ≤ 200000000000 }
-{
-    nominal * factor / 100000
-}
-
-// Nominal flow at the leg's speed.
-fn nominal<K: Kind>(kind: &K, request: &Request, thrust: u64) -> Result<u64, Refusal>
-    requires { thrust ≤ 10000000000 }
-    ensures value { result ≡ (if (K.Kind.engine kind.now).refuses request.now.speed then Err Flow else Ok ((K.Kind.engine kind.now).nominal request.now.speed thrust)) }
-    ensures bound { IfOk result (λ n. n ≤ 100000000000) }
-{
-    kind.nominal(request.speed, thrust)
-}
-
-// Idle flow at the leg's altitude.
-fn idle<K: Kind>(kind: &K, request: &Request) -> Result<u64, Refusal>
-    ensures value { result ≡ Ok ((K.Kind.engine kind.now).idle request.now.altitude) }
-    ensures bound { IfOk result (λ n. n ≤ 100000000000) }
-{
-    kind.idle(request.altitude)
-}
-
-// Idle in CR, else the greater of nominal and idle.
-fn descending<K: Kind>(
-    aircraft: &Aircraft,
-    kind: &K,
-    c: Configuration,
-    request: &Request,
-    thrust: u64,
-) -> Result<u64, Refusal>
-    requires { thrust ≤ 10000000000 }
-    ensures value { result ≡ flow_answer aircraft.now (K.Kind.engine kind.now) Phase.Descent c (figures_of request.now) thrust }
-    ensures bound { IfOk result (λ n. n ≤ 100000000000) }
-{
-    if !by_thrust(c) {
-        return idle(kind, request);
+impl<'a, K: Kind> Leg<'a, K> {
+    // Nominal flow in mg/min at the leg's speed.
+    fn nominal(&self, thrust: Thrust) -> Result<u64, Refusal>
+        ensures value { result ≡ (if (K.Kind.engine self.now.kind.now).refuses self.now.request.now.speed then Err Flow else Ok ((K.Kind.engine self.now.kind.now).nominal self.now.request.now.speed thrust)) }
+        ensures bound { IfOk result (λ n. n ≤ 100000000000) }
+    {
+        self.kind.nominal(self.request.speed, thrust.millinewtons)
     }
-    let n = nominal(kind, request, thrust)?;
-    Ok(n.max(idle(kind, request)?))
-}
 
-// In mg/min, refused where the leg needs nominal flow and the kind refuses it.
-pub(crate) fn flow<K: Kind>(
-    aircraft: &Aircraft,
-    kind: &K,
-    phase: Phase,
-    c: Configuration,
-    request: &Request,
-    thrust: u64,
-) -> Result<u64, Refusal>
-    requires { thrust ≤ 10000000000 }
-    ensures value { result ≡ flow_answer aircraft.now (K.Kind.engine kind.now) phase c (figures_of request.now) thrust }
-    ensures bound { IfOk result (λ n. n ≤ 200000000000) }
-{
-    match phase {
-        Phase::Climb => nominal(kind, request, thrust),
-        Phase::Cruise => Ok(cruising(nominal(kind, request, thrust)?, aircraft.cruise)),
-        Phase::Descent => descending(aircraft, kind, c, request, thrust),
+    // Idle flow in mg/min at the leg's altitude.
+    fn idle(&self) -> Result<u64, Refusal>
+        ensures value { result ≡ Ok ((K.Kind.engine self.now.kind.now).idle self.now.request.now.altitude) }
+        ensures bound { IfOk result (λ n. n ≤ 100000000000) }
+    {
+        self.kind.idle(self.request.altitude)
     }
-}
 
-// In mg, from a flow in mg/min.
-pub(crate) fn burn(flow: u64, seconds: u64) -> u64
-    requires flow { flow ≤ 200000000000 }
-    requires seconds { seconds ≤ 60 }
-    ensures { result ≡ burned flow seconds }
-{
-    flow * seconds / 60
+    // In mg/min, refused where the leg needs nominal flow and the kind refuses it. A clean descent is flown at idle.
+    pub(crate) fn flow(&self, thrust: Thrust) -> Result<u64, Refusal>
+        ensures value { result ≡ flow_answer self.now.aircraft.now (K.Kind.engine self.now.kind.now) self.now.phase self.now.configuration (figures_of self.now.request.now) thrust }
+        ensures bound { IfOk result (λ n. n ≤ 200000000000) }
+    {
+        match (self.phase, self.configuration) {
+            (Phase::Climb, _) => self.nominal(thrust),
+            (Phase::Cruise, _) => Ok(self.nominal(thrust)? * self.aircraft.cruise / 100000),
+            (Phase::Descent, Configuration::Approach | Configuration::Landing) => Ok(
+                self.nominal(thrust)?.max(self.idle()?),
+            ),
+            (Phase::Descent, _) => self.idle(),
+        }
+    }
 }

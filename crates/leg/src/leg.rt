@@ -1,59 +1,57 @@
-// What air and engine give a leg, and what a leg answers.
-ghost use Rattle.std.specs.Prelude.{◌≡◌, ◌≤◌, pos, negsuc, ◌≤ℤ◌, IfOk, Ok};
+// What a leg's air and engine give it, and what it answers.
+ghost use Rattle.std.specs.Prelude.{◌≡◌, Ok};
 ghost use Rattle.leg.specs.Requests.{figures_of};
 ghost use Rattle.leg.specs.Rules.{temperature_factor, available_thrust};
 ghost use Rattle.leg.specs.Legs.{powered_answer};
 
+use crate::conditions::Conditions;
 use crate::configurations::share;
-use crate::flow::{burn, flow};
 use crate::flown::Flown;
 use crate::phase::Phase;
 use crate::request::Request;
-use crate::thrust::{left, loss, short, used};
-use aircraft::record::{Aircraft, Temperature};
+use crate::thrust::Thrust;
+use aircraft::record::Aircraft;
 use aircraft::words::Configuration;
 use engine::kind::Kind;
 use refusal::refusal::Refusal;
 
-// The thrust that the air of the day leaves, in mN.
-pub(crate) fn available<K: Kind>(
-    temperature: &Temperature,
-    kind: &K,
-    request: &Request,
-    deviation: i64,
-) -> Result<u64, Refusal>
-    requires coldest { negsuc 4999 ≤ℤ deviation }
-    requires warmest { deviation ≤ℤ pos 5000 }
-    ensures value { result ≡ Ok (available_thrust ((K.Kind.engine kind.now).thrust request.now.altitude request.now.speed) (temperature_factor temperature.now deviation)) }
-    ensures bound { IfOk result (λ n. n ≤ 10000000000) }
-{
-    let standard = kind.thrust(request.altitude, request.speed)?;
-    Ok(left(standard, loss(temperature, deviation)))
+// One leg in its configuration.
+#[derive(Drop)]
+pub(crate) struct Leg<'a, K: Kind> {
+    pub(crate) aircraft: &'a Aircraft,
+    pub(crate) kind: &'a K,
+    pub(crate) phase: Phase,
+    pub(crate) configuration: Configuration,
+    pub(crate) request: &'a Request,
 }
 
-// What a leg that its wing lifts answers, with this drag and available thrust.
-pub(crate) fn powered<K: Kind>(
-    aircraft: &Aircraft,
-    kind: &K,
-    phase: Phase,
-    c: Configuration,
-    request: &Request,
-    drag: u64,
-    available: u64,
-) -> Result<Flown, Refusal>
-    requires { available ≤ 10000000000 }
-    ensures { result ≡ powered_answer aircraft.now (K.Kind.engine kind.now) phase c (figures_of request.now) drag available }
-{
-    let factor = share(&aircraft.descent, c, request.altitude);
-    let thrust = used(phase, drag, available, factor);
-    let flow = flow(aircraft, kind, phase, c, request, thrust)?;
-    let burn = burn(flow, request.seconds);
-    Ok(Flown {
-        configuration: c,
-        thrust,
-        drag,
-        flow,
-        burn,
-        limited: short(phase, drag, available),
-    })
+impl<'a, K: Kind> Leg<'a, K> {
+    // The thrust that the air leaves.
+    pub(crate) fn available(&self, conditions: &Conditions) -> Result<Thrust, Refusal>
+        ensures { result ≡ Ok (available_thrust ((K.Kind.engine self.now.kind.now).thrust self.now.request.now.altitude self.now.request.now.speed) (temperature_factor self.now.aircraft.now.temperature conditions.now.1)) }
+    {
+        let millinewtons = self.kind.thrust(self.request.altitude, self.request.speed)?;
+        Ok(conditions.left(&self.aircraft.temperature, Thrust { millinewtons }))
+    }
+
+    // What the leg answers where its wing lifts it, with this drag and available thrust.
+    pub(crate) fn powered(&self, drag: u64, available: Thrust) -> Result<Flown, Refusal>
+        ensures { result ≡ powered_answer self.now.aircraft.now (K.Kind.engine self.now.kind.now) self.now.phase self.now.configuration (figures_of self.now.request.now) drag available }
+    {
+        let share = share(
+            &self.aircraft.descent,
+            self.configuration,
+            self.request.altitude,
+        );
+        let thrust = available.used(self.phase, drag, share);
+        let flow = self.flow(thrust)?;
+        Ok(Flown {
+            configuration: self.configuration,
+            thrust: thrust.millinewtons,
+            drag,
+            flow,
+            burn: flow * self.request.seconds / 60,
+            limited: available.is_short(self.phase, drag),
+        })
+    }
 }

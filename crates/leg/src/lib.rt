@@ -1,5 +1,6 @@
 #![tactic(auto)]
 
+mod conditions;
 mod configurations;
 mod drag;
 pub mod figures;

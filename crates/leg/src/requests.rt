@@ -21,13 +21,13 @@ impl Request {
         if altitude > aircraft.ceiling {
             return Err(Refusal::Altitude);
         }
-        if speed < 300 || speed > 7000 {
+        if !(300..=7000).contains(&speed) {
             return Err(Refusal::Speed);
         }
-        if calibrated < 20 || calibrated > 500 {
+        if !(20..=500).contains(&calibrated) {
             return Err(Refusal::Calibrated);
         }
-        if seconds < 1 || seconds > 60 {
+        if !(1..=60).contains(&seconds) {
             return Err(Refusal::Seconds);
         }
         Ok(Request {

@@ -3,10 +3,10 @@ ghost use Rattle.std.specs.Prelude.{◌≡◌};
 ghost use Rattle.leg.specs.Requests.{figures_of};
 ghost use Rattle.leg.specs.Legs.{leg_answer};
 
+use crate::conditions::Conditions;
 use crate::configurations::{coefficients, configuration};
-use crate::drag::{drag, force};
 use crate::flown::Flown;
-use crate::leg::{available, powered};
+use crate::leg::Leg;
 use crate::mass::Mass;
 use crate::phase::Phase;
 use crate::request::Request;
@@ -28,13 +28,16 @@ impl<'a, K: Kind, D: Day> Setting<'a, K, D> {
     pub fn fly(&self, phase: Phase, request: &Request, mass: Mass) -> Result<Flown, Refusal>
         ensures { result ≡ leg_answer self.now.aircraft.now (K.Kind.engine self.now.kind.now) (D.Day.air self.now.day.now) phase (figures_of request.now) mass.milligrams }
     {
-        let aircraft = self.aircraft;
-        let kind = self.kind;
-        let (density, deviation) = self.day.at(request.altitude)?;
-        let c = configuration(aircraft, phase, request);
-        let force = force(density, request.speed, aircraft.wing);
-        let drag = drag(coefficients(aircraft, c), mass, force)?;
-        let available = available(&aircraft.temperature, kind, request, deviation)?;
-        powered(aircraft, kind, phase, c, request, drag, available)
+        let conditions = Conditions::at(self.day, request)?;
+        let leg = Leg {
+            aircraft: self.aircraft,
+            kind: self.kind,
+            phase,
+            configuration: configuration(self.aircraft, phase, request),
+            request,
+        };
+        let force = conditions.force(request, leg.aircraft);
+        let drag = coefficients(leg.aircraft, leg.configuration).drag(mass, force)?;
+        leg.powered(drag, leg.available(&conditions)?)
     }
 }

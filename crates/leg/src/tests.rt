@@ -13,73 +13,6 @@ use aircraft::words::Configuration;
 use engine::jet::Jet;
 use refusal::refusal::Refusal;
 
-fn sample_jet() -> JetCoefficients {
-    JetCoefficients {
-        ctc1: 150000000,
-        ctc2: 50000,
-        ctc3: 1000000,
-        fuel: Fuel {
-            cf1: 70000000,
-            cf2: 100000,
-            cf3: 12000000,
-            cf4: 100000,
-        },
-    }
-}
-
-fn sample() -> Aircraft {
-    Aircraft {
-        engine: Engine::Jet(sample_jet()),
-        masses: Masses {
-            reference: 60000000,
-            minimum: 40000000,
-            maximum: 80000000,
-        },
-        ceiling: 40000,
-        wing: 100000,
-        rows: Rows {
-            cruise: Row {
-                stall: 140000,
-                cd0: 2000000,
-                cd2: 4000000,
-            },
-            initial: Row {
-                stall: 117000,
-                cd0: 3305700,
-                cd2: 4536200,
-            },
-            takeoff: Row {
-                stall: 117000,
-                cd0: 3305700,
-                cd2: 4536200,
-            },
-            approach: Row {
-                stall: 115000,
-                cd0: 3803100,
-                cd2: 4493200,
-            },
-            landing: Row {
-                stall: 97000,
-                cd0: 7893500,
-                cd2: 4482200,
-            },
-        },
-        gear: 2250000,
-        temperature: Temperature {
-            ctc4: 100000,
-            ctc5: 500000,
-        },
-        descent: Descent {
-            low: 730000,
-            high: 2060000,
-            level: 8000,
-            approach: 12000000,
-            landing: 36000000,
-        },
-        cruise: 100000,
-    }
-}
-
 // Every coefficient at the end of its range that makes the leg's figures large.
 fn largest_jet() -> JetCoefficients {
     JetCoefficients {
@@ -151,11 +84,11 @@ fn sample_leg(
     mass: Mass,
 ) -> Result<Flown, Refusal> {
     let day = Bench::new(density, deviation)?;
-    let request = Request::new(&sample(), asked(altitude, 4500, 280, 60))?;
+    let request = Request::new(&sample_jet::aircraft(), asked(altitude, 4500, 280, 60))?;
     let setting = Setting {
-        aircraft: &sample(),
+        aircraft: &sample_jet::aircraft(),
         kind: &Jet {
-            coefficients: sample_jet(),
+            coefficients: sample_jet::coefficients(),
         },
         day: &day,
     };
@@ -165,11 +98,14 @@ fn sample_leg(
 // The configuration of the sample jet at 60 t and 250 kt.
 fn flaps(phase: Phase, altitude: u64, calibrated: u64) -> Result<Configuration, Refusal> {
     let day = Bench::new(100000, 0)?;
-    let request = Request::new(&sample(), asked(altitude, 2500, calibrated, 60))?;
+    let request = Request::new(
+        &sample_jet::aircraft(),
+        asked(altitude, 2500, calibrated, 60),
+    )?;
     let setting = Setting {
-        aircraft: &sample(),
+        aircraft: &sample_jet::aircraft(),
         kind: &Jet {
-            coefficients: sample_jet(),
+            coefficients: sample_jet::coefficients(),
         },
         day: &day,
     };
@@ -202,7 +138,7 @@ fn largest_leg(
     setting.fly(phase, &request, mass)
 }
 
-// The number by which a leg of the sample aircraft is refused, or 0.
+// The number by which a leg of the sample aircraft is refused, or 0, as the worked figures have it.
 fn refusal_of(
     kind: &Jet,
     phase: Phase,
@@ -211,27 +147,26 @@ fn refusal_of(
     milligrams: u64,
 ) -> Result<u8, Refusal> {
     let day = Bench::new(45000, 0)?;
-    let request = Request::new(&sample(), asked(altitude, speed, 191, 60))?;
+    let request = Request::new(&sample_jet::aircraft(), asked(altitude, speed, 191, 60))?;
     if milligrams < 200000000 || milligrams > 900000000000 {
         return Err(Refusal::Script);
     }
     let setting = Setting {
-        aircraft: &sample(),
+        aircraft: &sample_jet::aircraft(),
         kind,
         day: &day,
     };
-    match setting.fly(phase, &request, Mass { milligrams }) {
-        Ok(_) => Ok(0),
-        Err(refusal) => Ok(u8::from(refusal)),
-    }
+    let flown = setting.fly(phase, &request, Mass { milligrams });
+    Ok(flown.map_or_else(u8::from, |_| 0))
 }
 
-// The number by which the figures of a leg are refused, or 0.
+// The number by which the figures of a leg are refused, or 0, as the worked figures have it.
 fn figures(altitude: u64, speed: u64, calibrated: u64, seconds: u64) -> u8 {
-    match Request::new(&sample(), asked(altitude, speed, calibrated, seconds)) {
-        Ok(_) => 0,
-        Err(refusal) => u8::from(refusal),
-    }
+    let request = Request::new(
+        &sample_jet::aircraft(),
+        asked(altitude, speed, calibrated, seconds),
+    );
+    request.map_or_else(u8::from, |_| 0)
 }
 
 #[test]
@@ -390,7 +325,7 @@ fn largest_legs(rt: HostRuntime) {
 #[test]
 fn refused_legs(rt: HostRuntime) {
     let jet = Jet {
-        coefficients: sample_jet(),
+        coefficients: sample_jet::coefficients(),
     };
     assert_eq!(rt;
         refusal_of(&jet, Phase::Climb, 30000, 1800, 59020798000),

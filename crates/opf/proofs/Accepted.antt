@@ -2,14 +2,15 @@
 use Rattle.std.proofs.Common.{◌≡◌, ℕ, zero, suc, ◌*◌, ◌/◌, ◌%◌, ◌^◌, ◌≤◌, Bool, true, false, cond, not, ◌&&◌, ◌||◌, eqb, leb, ◌⊎◌, ℤ, pos, ◌*ℤ◌, neg_ℤ, ◌≤ℤ◌, is_some, Some, None, Option, unwrap_or, sym, refl, ap, ◌∙◌, subst, inl, inr, ⊎_elim, zero-mul, arith}
 use native.Mathlib.Nat.{div-mul_cancel, dvd_of_mod-eq-zero}
 use lib.IntN.{+ℤ_idl}
+use lib.Signed.{le_z}
 use Rattle.std.proofs.lemmas.Int.{ints}
 use Rattle.std.proofs.lemmas.Bool.{eqb-true, leb-true, cases_Bool, and_parts, or_cases}
 use Rattle.refusal.specs.declared.fault.Fault.TheVariants as fault
 use Rattle.opf.specs.declared.number.Number.{Number}
 use Rattle.opf.specs.declared.number.Quantity.{Quantity}
 use Rattle.opf.specs.Fields.{field}
-use Rattle.opf.specs.Numbers.{number_of, fixed_point, whole_count, raising, lowering, within, natural_from, natural_in, signed_value, signed_from, signed_in}
-use Rattle.opf.specs.DataLines.{Fields, bound, number_fault, natural_fault, natural, signed_fault, integer}
+use Rattle.opf.specs.Numbers.{number_of, fixed_point, whole_count, raising, lowering, within, between, natural_from, natural_in, signed_value, signed_from, signed_in}
+use Rattle.opf.specs.DataLines.{Fields, bound, number_fault, counted_fault, counted, natural_fault, natural, signed_fault, integer}
 use Rattle.opf.specs.Printed.{IsNumber, Prints, PrintsCount}
 
 pub some_is_not_none : {X : Type 0} (x : X) → Some x ≡ None → ⊥
@@ -53,7 +54,7 @@ unsigned false v h = refl
 unsigned true v (inl z) = let v_is = eqb-true v 0 z in ap pos v_is ∙ sym (ap (signed_value true) v_is)
 unsigned true v (inr f) = absurd (let z : ◌≡◌ {A = ℕ} 0 1 = cc in omega arith)
 
-natural_some : (q : Quantity) (m : Bool) (o : Option ℕ) (y : ℕ) → natural_from q m o ≡ Some y → (o ≡ Some y) × (q.low ≤ y) × (y ≤ q.high) × (pos y ≡ signed_value m y)
+natural_some : (q : Quantity ℕ) (m : Bool) (o : Option ℕ) (y : ℕ) → natural_from q m o ≡ Some y → (o ≡ Some y) × (q.low ≤ y) × (y ≤ q.high) × (pos y ≡ signed_value m y)
 natural_some q m None y e = absurd (some_is_not_none y (sym e))
 natural_some q m (Some v) y e =
     ⊎_elim
@@ -68,13 +69,13 @@ natural_some q m (Some v) y e =
     (λ f. absurd (some_is_not_none y (sym (rw f at e))))
     (cases_Bool (within q m v))
 
-pub record NaturalRead (fs : Fields) (k : ℕ) (q : Quantity) : Type 0 where
+pub record NaturalRead (fs : Fields) (k : ℕ) (q : Quantity ℕ) : Type 0 where
   pub least : q.low ≤ natural fs k q
   pub most : natural fs k q ≤ q.high
   pub prints : PrintsCount (field fs k) q (natural fs k q)
 
-pub natural_clear : (n : ℕ) (fs : Fields) (k : ℕ) (q : Quantity) → natural_fault n fs k q ≡ None → NaturalRead fs k q
-unfolding natural_fault natural natural_in
+pub natural_clear : (n : ℕ) (fs : Fields) (k : ℕ) (q : Quantity ℕ) → natural_fault n fs k q ≡ None → NaturalRead fs k q
+unfolding counted_fault counted natural_in
 natural_clear n fs k q e =
     let r = number_clear n k (number_of (field fs k)) (natural_in q) e in
     let x = r.0 in
@@ -89,38 +90,36 @@ natural_clear n fs k q e =
           (ap (λ (z : ℤ). z *ℤ pos (10 ^ lowering x)) s.3 ∙ printed_count x.negative x.digits (raising q.decimals x) (lowering x) r.1 s.0));
     }
 
-signed_some : (q : Quantity) (m : Bool) (o : Option ℕ) (z : ℤ) → signed_from q m o ≡ Some z → (v : ℕ) × (o ≡ Some v) × (z ≡ signed_value m v) × (v ≤ q.high)
+signed_some : (q : Quantity ℤ) (m : Bool) (o : Option ℕ) (z : ℤ) → signed_from q m o ≡ Some z → (v : ℕ) × (o ≡ Some v) × (z ≡ signed_value m v) × (q.low ≤ℤ z) × (z ≤ℤ q.high)
 signed_some q m None z e = absurd (some_is_not_none z (sym e))
 signed_some q m (Some v) z e =
     ⊎_elim
     (λ t.
     let same : Some (signed_value m v) ≡ Some z = rw t at e in
     let z_is : signed_value m v ≡ z = cc in
-    (v, refl, sym z_is, leb-true v q.high t))
+    let both = and_parts (le_z q.low (signed_value m v)) (le_z (signed_value m v) q.high) t in
+    let low : q.low ≤ℤ signed_value m v = grind (arith, ints) in
+    let high : signed_value m v ≤ℤ q.high = grind (arith, ints) in
+    (v, refl, sym z_is, rw z_is at low, rw z_is at high))
     (λ f. absurd (some_is_not_none z (sym (rw f at e))))
-    (cases_Bool (leb v q.high))
+    (cases_Bool (between q (signed_value m v)))
 
-signed_within : (m : Bool) (v h : ℕ) → v ≤ h → (neg_ℤ (pos h) ≤ℤ signed_value m v) × (signed_value m v ≤ℤ pos h)
-signed_within true v h l = (omega (arith, ints), omega (arith, ints))
-signed_within false v h l = (omega (arith, ints), omega (arith, ints))
-
-pub record IntegerRead (fs : Fields) (k : ℕ) (q : Quantity) : Type 0 where
-  pub least : neg_ℤ (pos q.high) ≤ℤ integer fs k q
-  pub most : integer fs k q ≤ℤ pos q.high
+pub record IntegerRead (fs : Fields) (k : ℕ) (q : Quantity ℤ) : Type 0 where
+  pub least : q.low ≤ℤ integer fs k q
+  pub most : integer fs k q ≤ℤ q.high
   pub prints : Prints (field fs k) q (integer fs k q)
 
-pub integer_clear : (n : ℕ) (fs : Fields) (k : ℕ) (q : Quantity) → signed_fault n fs k q ≡ None → IntegerRead fs k q
-unfolding signed_fault integer signed_in
+pub integer_clear : (n : ℕ) (fs : Fields) (k : ℕ) (q : Quantity ℤ) → signed_fault n fs k q ≡ None → IntegerRead fs k q
+unfolding counted_fault counted signed_in
 integer_clear n fs k q e =
     let r = number_clear n k (number_of (field fs k)) (signed_in q) e in
     let x = r.0 in
     let s = signed_some q x.negative (whole_count q.decimals x) r.1 r.3 in
     let value : integer fs k q ≡ r.1 = ap (λ (o : Option Number). unwrap_or (bound o (signed_in q)) (pos 0)) r.2 ∙ ap (λ (o : Option ℤ). unwrap_or o (pos 0)) r.3 in
     let is_signed : integer fs k q ≡ signed_value x.negative s.0 = value ∙ s.2 in
-    let range = signed_within x.negative s.0 q.high s.3 in
     record {
-      least = subst (λ (z : ℤ). neg_ℤ (pos q.high) ≤ℤ z) (sym is_signed) range.0;
-      most = subst (λ (z : ℤ). z ≤ℤ pos q.high) (sym is_signed) range.1;
+      least = subst (λ (z : ℤ). q.low ≤ℤ z) (sym value) s.3;
+      most = subst (λ (z : ℤ). z ≤ℤ q.high) (sym value) s.4;
       prints =
           subst (λ (z : ℤ). Prints (field fs k) q z) (sym is_signed)
           (subst (λ (o : Option Number). IsNumber o q.decimals (signed_value x.negative s.0)) (sym r.2)

@@ -1,7 +1,6 @@
 -- A file without a fault gives a plain record within its ranges, and an aircraft with these values is what the file prints.
 use Rattle.std.proofs.Common.{◌≡◌, ℕ, ◌-◌, ◌≤◌, Bool, true, leb, List, [], ◌∷◌, length, get_or, take, ℤ, is_some, Some, None, Ok, Option, IfSome, unwrap_or, sym, refl, ap, ◌∙◌, subst, arith}
 use Rattle.std.proofs.lemmas.List.{get_or-take}
-use Rattle.std.proofs.lemmas.Int.{ints}
 use Rattle.std.proofs.lemmas.Bool.{leb-true, le-leb, and_parts}
 use Rattle.refusal.specs.declared.fault.Fault.{Fault}
 use Rattle.refusal.specs.declared.fault.Fault.TheVariants as fault
@@ -22,7 +21,7 @@ use Rattle.opf.specs.declared.number.Quantity.{Quantity}
 use Rattle.opf.specs.Faults.{unless, or_else, first_of, judge}
 use Rattle.opf.specs.Text.{lines}
 use Rattle.opf.specs.Fields.{field}
-use Rattle.opf.specs.DataLines.{Fields, nth_line, natural, engine_of, masses_of, in_order, thrust_of, thrust_faults, ctc3_fault, row_from, line_naming, configuration_lines, parasitic, one_faults, two_faults}
+use Rattle.opf.specs.DataLines.{Fields, nth_line, natural, engine_of, masses_of, in_order, thrust_of, thrust_faults, row_from, line_naming, configuration_lines, parasitic, one_faults, two_faults}
 use Rattle.opf.specs.Files.{draft_of, lines_fault, data_lines, read_file}
 use Rattle.opf.specs.Records.{values_of, thrust_values, row_values, Ranged, GivenRow, RangedThrust}
 use Rattle.opf.specs.Printed.{Prints, PrintsCount, line_of, RowPrinted, ThrustPrinted, Printed}
@@ -41,14 +40,10 @@ pub record MassesRead (fs : Fields) : Type 0 where
   pub lower : natural fs 2 quantity.mass ≤ natural fs 1 quantity.mass
   pub upper : natural fs 1 quantity.mass ≤ natural fs 3 quantity.mass
 
-abbrev Ctc3Read : EngineType → Fields → Type 0
-Ctc3Read engine.Jet fs = NaturalRead fs 3 quantity.jet_ctc3
-Ctc3Read engine.Turboprop fs = IntegerRead fs 3 quantity.turboprop_ctc3
-
 pub record ThrustRead (e : EngineType) (fs : Fields) : Type 0 where
   pub ctc1 : NaturalRead fs 1 (quantity.ctc1 e)
   pub ctc2 : NaturalRead fs 2 quantity.ctc2
-  pub ctc3 : Ctc3Read e fs
+  pub ctc3 : IntegerRead fs 3 (quantity.ctc3 e)
   pub ctc4 : IntegerRead fs 4 quantity.ctc4
   pub ctc5 : NaturalRead fs 5 quantity.ctc5
 
@@ -58,10 +53,6 @@ pub record DescentRead (fs : Fields) : Type 0 where
   pub level : NaturalRead fs 3 quantity.descent_level
   pub approach : NaturalRead fs 4 quantity.descent_factor
   pub landing : NaturalRead fs 5 quantity.descent_factor
-
-ctc3_clear : (e : EngineType) (n : ℕ) (fs : Fields) → ctc3_fault e n fs ≡ None → Ctc3Read e fs
-ctc3_clear engine.Jet n fs h = natural_clear n fs 3 quantity.jet_ctc3 h
-ctc3_clear engine.Turboprop n fs h = integer_clear n fs 3 quantity.turboprop_ctc3 h
 
 thrust_clear : (e : EngineType) (n : ℕ) (fs : Fields) → first_of (thrust_faults e n fs) ≡ None → ThrustRead e fs
 thrust_clear e n fs h =
@@ -74,7 +65,7 @@ thrust_clear e n fs h =
     record {
       ctc1 = natural_clear n fs 1 (quantity.ctc1 e) b.0;
       ctc2 = natural_clear n fs 2 quantity.ctc2 c.0;
-      ctc3 = ctc3_clear e n fs d.0;
+      ctc3 = integer_clear n fs 3 (quantity.ctc3 e) d.0;
       ctc4 = integer_clear n fs 4 quantity.ctc4 f.0;
       ctc5 = natural_clear n fs 5 quantity.ctc5 g.0;
     }
@@ -86,8 +77,8 @@ thrust_ranged engine.Jet fs r =
       ctc1_most = r.ctc1.most;
       ctc2_least = r.ctc2.least;
       ctc2_most = r.ctc2.most;
-      ctc3_least = omega (arith, ints);
-      ctc3_most = omega (arith, ints, r.ctc3.most);
+      ctc3_least = r.ctc3.least;
+      ctc3_most = r.ctc3.most;
     }
 thrust_ranged engine.Turboprop fs r =
     record { ctc1_most = r.ctc1.most; ctc2_least = r.ctc2.least; ctc2_most = r.ctc2.most; ctc3_least = r.ctc3.least; ctc3_most = r.ctc3.most }
@@ -175,7 +166,7 @@ module _ {d : List Fields} (w : Whole d) where
       }
 
   -- a line of which field k is read by itself
-  one_read : (k : ℕ) (q : Quantity) (n : ℕ) (fs : Fields) → first_of (one_faults n fs k q) ≡ None → NaturalRead fs k q
+  one_read : (k : ℕ) (q : Quantity ℕ) (n : ℕ) (fs : Fields) → first_of (one_faults n fs k q) ≡ None → NaturalRead fs k q
   one_read k q n fs h = natural_clear n fs k q (none_first _ _ (none_first _ _ h).1).0
 
   ceiling_read : NaturalRead (nth_line d 3) 3 quantity.ceiling
@@ -215,7 +206,7 @@ module _ {d : List Fields} (w : Whole d) where
       }
 
   -- a line of which fields 1 and 2 are read
-  two_read : (q s : Quantity) (n : ℕ) (fs : Fields) → first_of (two_faults n fs q s) ≡ None → NaturalRead fs 1 q × NaturalRead fs 2 s
+  two_read : (q s : Quantity ℕ) (n : ℕ) (fs : Fields) → first_of (two_faults n fs q s) ≡ None → NaturalRead fs 1 q × NaturalRead fs 2 s
   two_read q s n fs h =
       let a = none_first _ _ h in
       let b = none_first _ _ a.1 in
@@ -266,7 +257,7 @@ module _ {d : List Fields} (w : Whole d) where
   -- an aircraft with these values
   module _ (a : Aircraft) (same : values_of a ≡ draft_of d) where
     -- a count that the record holds is the one that the field prints
-    prints : {fs : Fields} {k : ℕ} {q : Quantity} (g : Draft → ℕ) → g (draft_of d) ≡ natural fs k q → NaturalRead fs k q → PrintsCount (field fs k) q (g (values_of a))
+    prints : {fs : Fields} {k : ℕ} {q : Quantity ℕ} (g : Draft → ℕ) → g (draft_of d) ≡ natural fs k q → NaturalRead fs k q → PrintsCount (field fs k) q (g (values_of a))
     prints {fs} {k} {q} g e r = subst (λ (v : ℕ). PrintsCount (field fs k) q v) (sym (ap g same ∙ e)) r.prints
 
     row_printed : (c : Configuration) (r : Row) (g : Draft → Option DraftRow) → g (draft_of d) ≡ row_from (line_naming c (configuration_lines d)) → Some (row_values r) ≡ g (values_of a) → RowPrinted (line_of d c) c r

@@ -1,10 +1,13 @@
 -- Powers of ten in a number's value.
-use Rattle.std.proofs.Common.{◌≡◌, ℕ, zero, suc, ◌+◌, ◌-◌, ◌*◌, ◌/◌, ◌%◌, ◌^◌, ◌<◌, ◌≤◌, Bool, true, false, cond, not, ◌&&◌, ◌||◌, eqb, leb, Some, None, Option, sym, refl, ap, ◌∙◌, ⊎_elim, add-zero, mod-eq_of_lt, zero-lt-suc, mul_assoc, mul_comm, mul-le-mul, mul-pos, zero-mul, mul-div_cancel, arith, pow-add}
+use Rattle.std.proofs.Common.{◌≡◌, ℕ, zero, suc, ◌+◌, ◌*◌, ◌/◌, ◌%◌, ◌^◌, ◌<◌, ◌≤◌, Bool, true, false, cond, not, ◌&&◌, ◌||◌, eqb, leb, ◌⊎◌, inl, inr, ℤ, pos, negsuc, unsigned_abs, neg_ℤ, ◌+ℤ◌, ◌-ℤ◌, ◌<ℤ◌, ◌≤ℤ◌, Some, None, Option, SomeIff, sym, refl, ap, ◌∙◌, ⊎_elim, add-zero, mod-eq_of_lt, zero-lt-suc, mul_assoc, mul_comm, mul-le-mul, mul-pos, zero-mul, mul-div_cancel, arith, pow-add}
 use native.Mathlib.Nat.{mul-mod_left, mul-div-mul_right, zero-mod, zero-div, pow-le-pow_right}
+use Rattle.std.proofs.Math.Nat.{div-le_self}
+use lib.Signed.{le_z}
+use Rattle.std.proofs.lemmas.Int.{ints}
 use lib.Arith.{mod-mul}
-use Rattle.std.proofs.lemmas.Bool.{eq-eqb, ne_eqb, le-leb, lt-leb, leb-true, and_left, and_right, cases_Bool}
+use Rattle.std.proofs.lemmas.Bool.{eq-eqb, ne_eqb, le-leb, lt-leb, leb-true, leb-false, and_left, and_right, or_right, cases_Bool}
 use Rattle.opf.specs.declared.number.Quantity.{Quantity}
-use Rattle.opf.specs.Numbers.{fixed_point, within, natural_from, signed_from, signed_value}
+use Rattle.opf.specs.Numbers.{fixed_point, raised, lowered, within, between, natural_from, signed_value, signed_from}
 use Rattle.opf.specs.Counts.{at_most}
 
 pub ten_pos : (n : ℕ) → 0 < 10 ^ n
@@ -43,15 +46,6 @@ pub fixed_zero : (a b : ℕ) → fixed_point (0) a b ≡ Some 0
 unfolding fixed_point
 fixed_zero a b = rw (zero-mul (10 ^ a), zero-mod (10 ^ b), zero-div (10 ^ b))
 
--- one power of ten for both
-pub raised_count : (d up down a b : ℕ) → up ≡ a → down ≡ b → down ≤ up → fixed_point d (up - down) 0 ≡ fixed_point d a b
-raised_count d up down a b p q h =
-    fixed_up d (up - down) 0 (up - down) (omega arith) ∙ sym (fixed_up d a b (up - down) (omega arith))
-
-pub lowered_count : (d up down a b : ℕ) → up ≡ a → down ≡ b → up ≤ down → fixed_point d 0 (down - up) ≡ fixed_point d a b
-lowered_count d up down a b p q h =
-    fixed_down d 0 (down - up) (down - up) (omega arith) ∙ sym (fixed_down d a b (down - up) (omega arith))
-
 -- What the limit keeps.
 
 pub kept_some : (high v : ℕ) → v ≤ high → Some v ≡ at_most high (Some v)
@@ -60,61 +54,61 @@ kept_some high v h = rw (le-leb v high h)
 pub kept_none : (high v : ℕ) → high < v → None ≡ at_most high (Some v)
 kept_none high v h = rw (lt-leb v high h)
 
--- Five digits raised.
-
-pub ten_most : (n m : ℕ) → n ≤ m → 10 ^ n ≤ 10 ^ m
-ten_most n m h = pow-le-pow_right {n = 10} (omega arith) {i = n} {j = m} h
-
 product : (a m b n : ℕ) → a ≤ m → b ≤ n → a * b ≤ m * n
 product a m b n p q = mul-le-mul p q
 
-pub raised_fits : (d n p : ℕ) → d < 100000 → n ≤ 11 → p ≡ 10 ^ n → d * p ≤ 100000 * 100000000000
-raised_fits d n p h k e =
-    let small : 10 ^ n ≤ 10 ^ 11 = ten_most n 11 k in
-    product d 100000 p 100000000000 (omega arith) (omega arith)
+-- A number whose digits are raised, or lowered, by n places.
 
-pub raised_past : (d n high : ℕ) → 0 < d → high ≤ 100000000000 → 11 < n → None ≡ at_most high (fixed_point d n 0)
-raised_past d n high some most far =
-    let big : 10 ^ 12 ≤ 10 ^ n = ten_most 12 n far in
-    let more : 1 * 10 ^ 12 ≤ d * 10 ^ n = product 1 d (10 ^ 12) (10 ^ n) some big in
-    rw (fixed_up d n 0 n (omega arith)) (kept_none high (d * 10 ^ n) (omega arith))
+-- by how much the unit and the exponent raise, or lower, the digits
+module _ (u n : ℕ) (e z : ℤ) (size : n ≡ unsigned_abs z) (shift : z ≡ pos u +ℤ e -ℤ pos 5) where
+  pub shifted_up : le_z (pos 0) z ≡ true → u + raised e ≡ 5 + lowered e + n
+  shifted_up p = up e z size shift p
+    where
+      up : (e z : ℤ) → n ≡ unsigned_abs z → z ≡ pos u +ℤ e -ℤ pos 5 → le_z (pos 0) z ≡ true → u + raised e ≡ 5 + lowered e + n
+      up (pos e) (pos k) s h p = omega (arith, ints)
+      up (negsuc e) (pos k) s h p = omega (arith, ints)
+      up e (negsuc k) s h p = absurd (let t : ◌≡◌ {A = ℕ} 0 1 = cc in omega arith)
 
-pub raised_over : (d n p high : ℕ) → p ≡ 10 ^ n → high < d * p → None ≡ at_most high (fixed_point d n 0)
-raised_over d n p high e h = rw (fixed_up d n 0 n (omega arith), ← e) (kept_none high (d * p) h)
+  pub shifted_down : le_z (pos 0) z ≡ false → 5 + lowered e ≡ n + (u + raised e)
+  shifted_down p = down e z size shift p
+    where
+      down : (e z : ℤ) → n ≡ unsigned_abs z → z ≡ pos u +ℤ e -ℤ pos 5 → le_z (pos 0) z ≡ false → 5 + lowered e ≡ n + (u + raised e)
+      down (pos e) (negsuc k) s h p = omega (arith, ints)
+      down (negsuc e) (negsuc k) s h p = omega (arith, ints)
+      down e (pos k) s h p = absurd (let t : le_z (pos 0) (pos k) ≡ true = le-leb 0 k (omega arith) in let y : ◌≡◌ {A = ℕ} 0 1 = cc in omega arith)
 
-pub raised_kept : (d n p high : ℕ) → p ≡ 10 ^ n → d * p ≤ high → Some (d * p) ≡ at_most high (fixed_point d n 0)
-raised_kept d n p high e h = rw (fixed_up d n 0 n (omega arith), ← e) (kept_some high (d * p) h)
+  pub shifted : (u + raised e ≡ 5 + lowered e + n) ⊎ (5 + lowered e ≡ n + (u + raised e))
+  shifted = ⊎_elim (λ t. inl (shifted_up t)) (λ f. inr (shifted_down f)) (cases_Bool (le_z (pos 0) z))
 
--- Five digits lowered.
+module _ (d a b n high : ℕ) where
+  -- the power alone passes the limit
+  pub past_limit : 0 < d → d ≤ high → high < 10 ^ n → (a ≡ b + n) ⊎ (b ≡ n + a) → None ≡ at_most high (fixed_point d a b)
+  past_limit some fits far (inl up) =
+      let more : 1 * 10 ^ n ≤ d * 10 ^ n = product 1 d (10 ^ n) (10 ^ n) some (omega arith) in
+      rw (fixed_up d a b n up) (kept_none high (d * 10 ^ n) (omega arith))
+  past_limit some fits far (inr down) =
+      let less : d < 10 ^ n = omega arith in
+      let same : d % 10 ^ n ≡ d = mod-eq_of_lt less in
+      let no_zero : eqb d 0 ≡ false = ne_eqb d 0 (λ e. omega arith) in
+      rw (fixed_down d a b n down, same, no_zero)
 
-lowered_is : (d n : ℕ) → fixed_point d 0 n ≡ cond (eqb (d % 10 ^ n) 0) (Some (d / 10 ^ n)) None
-lowered_is d n = fixed_down d 0 n n (omega arith)
+  pub raised_units : (p : ℕ) (r : Option ℕ) → a ≡ b + n → p ≡ 10 ^ n → SomeIff r (d * p < high + 1) (d * p) → r ≡ at_most high (fixed_point d a b)
+  raised_units p None up e h = rw (fixed_up d a b n up, ← e) (kept_none high (d * p) (omega arith))
+  raised_units p (Some v) up e h = ap Some h.1 ∙ rw (fixed_up d a b n up, ← e) (kept_some high (d * p) (omega arith))
 
-pub lowered_past : (d n high : ℕ) → 0 < d → d < 100000 → 5 < n → None ≡ at_most high (fixed_point d 0 n)
-lowered_past d n high some five far =
-    let big : 10 ^ 6 ≤ 10 ^ n = ten_most 6 n far in
-    let less : d < 10 ^ n = omega arith in
-    let same : d % 10 ^ n ≡ d = mod-eq_of_lt less in
-    let no_zero : eqb d 0 ≡ false = ne_eqb d 0 (λ e. omega arith) in
-    rw (lowered_is d n, same, no_zero)
+  pub lowered_broken : (p : ℕ) → b ≡ n + a → p ≡ 10 ^ n → (d % p ≡ 0 → ⊥) → None ≡ at_most high (fixed_point d a b)
+  lowered_broken p down e h =
+      let broken : eqb (d % p) 0 ≡ false = ne_eqb (d % p) 0 h in
+      rw (fixed_down d a b n down, ← e, broken)
 
-pub lowered_broken : (d n p high : ℕ) → p ≡ 10 ^ n → (d % p ≡ 0 → ⊥) → None ≡ at_most high (fixed_point d 0 n)
-lowered_broken d n p high e h =
-    let broken : eqb (d % p) 0 ≡ false = ne_eqb (d % p) 0 h in
-    rw (lowered_is d n, ← e, broken)
-
-whole_lowered : (d n p : ℕ) → p ≡ 10 ^ n → d % p ≡ 0 → fixed_point d 0 n ≡ Some (d / p)
-whole_lowered d n p e h = let whole : eqb (d % p) 0 ≡ true = eq-eqb (d % p) 0 h in rw (lowered_is d n, ← e, whole)
-
-pub lowered_over : (d n p high : ℕ) → p ≡ 10 ^ n → d % p ≡ 0 → high < d / p → None ≡ at_most high (fixed_point d 0 n)
-lowered_over d n p high e z h = rw (whole_lowered d n p e z) (kept_none high (d / p) h)
-
-pub lowered_kept : (d n p high : ℕ) → p ≡ 10 ^ n → d % p ≡ 0 → d / p ≤ high → Some (d / p) ≡ at_most high (fixed_point d 0 n)
-lowered_kept d n p high e z h = rw (whole_lowered d n p e z) (kept_some high (d / p) h)
+  pub lowered_units : (p : ℕ) → b ≡ n + a → p ≡ 10 ^ n → d ≤ high → d % p ≡ 0 → Some (d / p) ≡ at_most high (fixed_point d a b)
+  lowered_units p down e fits h =
+      let whole : eqb (d % p) 0 ≡ true = eq-eqb (d % p) 0 h in
+      rw (fixed_down d a b n down, ← e, whole) (kept_some high (d / p) (omega (arith, div-le_self d p)))
 
 -- A count within the limit is judged by its range and sign.
 
-at_most_some : (high v : ℕ) (o : Option ℕ) → Some v ≡ at_most high o → (o ≡ Some v) × (v ≤ high)
+pub at_most_some : (high v : ℕ) (o : Option ℕ) → Some v ≡ at_most high o → (o ≡ Some v) × (v ≤ high)
 at_most_some high v None e = absurd (let z : ◌≡◌ {A = ℕ} 0 1 = cc in omega arith)
 at_most_some high v (Some w) e =
     ⊎_elim
@@ -122,39 +116,63 @@ at_most_some high v (Some w) e =
     (λ f. let none : Some v ≡ None = rw f at e in absurd (let z : ◌≡◌ {A = ℕ} 0 1 = cc in omega arith))
     (cases_Bool (leb w high))
 
-pub natural_none : (q : Quantity) (m : Bool) (o : Option ℕ) → None ≡ at_most q.high o → None ≡ natural_from q m o
-natural_none q m None e = refl
-natural_none q m (Some w) e =
+pub natural_none : (q : Quantity ℕ) (m : Bool) (high : ℕ) (o : Option ℕ) → q.high ≤ high → None ≡ at_most high o → None ≡ natural_from q m o
+natural_none q m high None h e = refl
+natural_none q m high (Some w) h e =
     ⊎_elim
     (λ t. let some : None ≡ Some w = rw t at e in absurd (let z : ◌≡◌ {A = ℕ} 0 1 = cc in omega arith))
     (λ f.
+    let past : leb w q.high ≡ false = lt-leb w q.high (omega (arith, leb-false w high f)) in
     let out : within q m w ≡ false =
-    and_left (leb q.low w && leb w q.high) (eqb w 0 || not m) (and_right (leb q.low w) (leb w q.high) f) in
+    and_left (leb q.low w && leb w q.high) (eqb w 0 || not m) (and_right (leb q.low w) (leb w q.high) past) in
     rw out)
-    (cases_Bool (leb w q.high))
+    (cases_Bool (leb w high))
 
-pub natural_below : (q : Quantity) (m : Bool) (v : ℕ) (o : Option ℕ) → Some v ≡ at_most q.high o → v < q.low → None ≡ natural_from q m o
-natural_below q m v o e h = let p = at_most_some q.high v o e in rw (p.0, lt-leb q.low v h)
+-- A count within the limit, by its range and sign.
 
-pub natural_zero : (q : Quantity) (m : Bool) (v : ℕ) (o : Option ℕ) → Some v ≡ at_most q.high o → q.low ≤ v → v ≡ 0 → Some v ≡ natural_from q m o
-natural_zero q m v o e h z = let p = at_most_some q.high v o e in rw (p.0, le-leb q.low v h, le-leb v q.high p.1, eq-eqb v 0 z)
+module _ (m : Bool) (v high : ℕ) (o : Option ℕ) (e : Some v ≡ at_most high o) where
+  pub natural_out : (q : Quantity ℕ) → (v < q.low) ⊎ (q.high < v) → None ≡ natural_from q m o
+  natural_out q (inl l) = rw ((at_most_some high v o e).0, lt-leb q.low v l)
+  natural_out q (inr l) =
+      let out : within q m v ≡ false = and_left (leb q.low v && leb v q.high) (eqb v 0 || not m) (and_right (leb q.low v) (leb v q.high) (lt-leb v q.high l)) in
+      rw ((at_most_some high v o e).0, out)
 
-pub natural_minus : (q : Quantity) (v : ℕ) (o : Option ℕ) → Some v ≡ at_most q.high o → (v ≡ 0 → ⊥) → None ≡ natural_from q true o
-natural_minus q v o e h = let p = at_most_some q.high v o e in rw (p.0, ne_eqb v 0 h, and_right (leb q.low v && leb v q.high) false refl)
+  pub natural_minus : (q : Quantity ℕ) → (v ≡ 0 → ⊥) → m ≡ true → None ≡ natural_from q m o
+  natural_minus q n t = rw ((at_most_some high v o e).0, t, ne_eqb v 0 n, and_right (leb q.low v && leb v q.high) false refl)
 
-pub natural_plus : (q : Quantity) (v : ℕ) (o : Option ℕ) → Some v ≡ at_most q.high o → q.low ≤ v → (v ≡ 0 → ⊥) → Some v ≡ natural_from q false o
-natural_plus q v o e h n = let p = at_most_some q.high v o e in rw (p.0, le-leb q.low v h, le-leb v q.high p.1, ne_eqb v 0 n)
+  pub natural_kept : (q : Quantity ℕ) → q.low ≤ v → v ≤ q.high → (v ≡ 0) ⊎ (m ≡ false) → Some v ≡ natural_from q m o
+  natural_kept q l h (inl z) = rw ((at_most_some high v o e).0, le-leb q.low v l, le-leb v q.high h, eq-eqb v 0 z)
+  natural_kept q l h (inr f) = rw ((at_most_some high v o e).0, le-leb q.low v l, le-leb v q.high h, f, or_right (eqb v 0) true refl)
 
-pub signed_none : (q : Quantity) (m : Bool) (o : Option ℕ) → None ≡ at_most q.high o → None ≡ signed_from q m o
-signed_none q m None e = refl
-signed_none q m (Some w) e =
+  pub signed_out : (q : Quantity ℤ) (z : ℤ) → z ≡ signed_value m v → (z <ℤ q.low) ⊎ (q.high <ℤ z) → None ≡ signed_from q m o
+  signed_out q z s (inl l) =
+      let out : le_z q.low z ≡ false = grind (arith, ints) in
+      rw ((at_most_some high v o e).0, ← s, out)
+  signed_out q z s (inr l) =
+      let past : le_z z q.high ≡ false = grind (arith, ints) in
+      let out : between q z ≡ false = and_right (le_z q.low z) (le_z z q.high) past in
+      rw ((at_most_some high v o e).0, ← s, out)
+
+  pub signed_kept : (q : Quantity ℤ) (z : ℤ) → z ≡ signed_value m v → q.low ≤ℤ z → z ≤ℤ q.high → Some z ≡ signed_from q m o
+  signed_kept q z s l h =
+      let low : le_z q.low z ≡ true = grind (arith, ints) in
+      let most : le_z z q.high ≡ true = grind (arith, ints) in
+      rw ((at_most_some high v o e).0, ← s, low, most)
+
+-- a count past the limit is in no range below it
+pub signed_none : (q : Quantity ℤ) (m : Bool) (high : ℕ) (o : Option ℕ) → neg_ℤ (pos high) ≤ℤ q.low → q.high ≤ℤ pos high → None ≡ at_most high o → None ≡ signed_from q m o
+signed_none q m high None l h e = refl
+signed_none q m high (Some w) l h e =
     ⊎_elim
     (λ t. let some : None ≡ Some w = rw t at e in absurd (let z : ◌≡◌ {A = ℕ} 0 1 = cc in omega arith))
-    (λ f. rw f)
-    (cases_Bool (leb w q.high))
-
-pub signed_some : (q : Quantity) (m : Bool) (v : ℕ) (o : Option ℕ) → Some v ≡ at_most q.high o → Some (signed_value m v) ≡ signed_from q m o
-signed_some q m v o e = let p = at_most_some q.high v o e in rw (p.0, le-leb v q.high p.1)
-
-pub count_fits : (high v : ℕ) (o : Option ℕ) → Some v ≡ at_most high o → v ≤ high
-count_fits high v o e = (at_most_some high v o e).1
+    (λ f. past m w (leb-false w high f))
+    (cases_Bool (leb w high))
+  where
+    past : (m : Bool) (w : ℕ) → high < w → None ≡ signed_from q m (Some w)
+    past true w p =
+        let out : le_z q.low (pos 0 -ℤ pos w) ≡ false = grind (arith, ints) in
+        rw out
+    past false w p =
+        let far : le_z (pos w) q.high ≡ false = grind (arith, ints) in
+        let out : between q (pos w) ≡ false = and_right (le_z q.low (pos w)) (le_z (pos w) q.high) far in
+        rw out

@@ -4,7 +4,7 @@ use mathlib.Core.Path.{fun_ext}
 use Rattle.std.specs.Str.{bytes_eq}
 use Rattle.std.proofs.lemmas.Slice.Eq.{bytes_eq-Decides}
 use Rattle.std.proofs.lemmas.List.{get_or_append_left, get_or_push, get_or_past, drop_all, drop-append-le, take_all, take-append-le, length_push}
-use Rattle.std.proofs.lemmas.Bool.{eq-eqb, ne_eqb, leb-true, leb-false, le-leb, lt-leb, cases_Bool, cases_lt, cases_eq, and_cases, and_parts, cond-true, cond-false}
+use Rattle.std.proofs.lemmas.Bool.{eq-eqb, ne_eqb, leb-true, leb-false, le-leb, cases_Bool, cases_lt, cases_eq, and_cases, and_parts, cond-true, cond-false}
 use Rattle.refusal.specs.declared.fault.Fault.{Fault}
 use Rattle.refusal.specs.declared.fault.Fault.TheVariants as fault
 use Rattle.aircraft.specs.declared.words.EngineType.{EngineType}
@@ -17,7 +17,7 @@ use Rattle.aircraft.specs.Words.{configuration_word, configuration_row, first_na
 use Rattle.opf.specs.Faults.{or_else, first_of}
 use Rattle.opf.specs.Fields.{field}
 use Rattle.opf.specs.Numbers.{number_of}
-use Rattle.opf.specs.DataLines.{Fields, natural, integer, nth_line, engine_of, masses_of, configuration_of, configuration_lines, names, line_naming, row_of, row_from, came, new_fault, configuration_faults, thrust_of, descent_of, consumption_of, idle_of, faults_at, data_fault}
+use Rattle.opf.specs.DataLines.{Fields, counted, natural, nth_line, engine_of, masses_of, configuration_of, configuration_lines, names, line_naming, row_of, row_from, came, new_fault, configuration_faults, thrust_of, descent_of, consumption_of, idle_of, faults_at, data_fault}
 use Rattle.opf.specs.Files.{draft_of}
 use Rattle.opf.specs.Steps.{filled, rows_with, after_line}
 use Rattle.opf.specs.Quantities as quantity
@@ -49,7 +49,7 @@ at_line g ds fs j k e h = ap g (nth_more ds fs j k e h) ∙ cond_after g (eqb k 
 
 -- a line that is not there gives the same for every engine
 thrust_none : (e e' : EngineType) → thrust_of e [] ≡ thrust_of e' []
-unfolding natural integer number_of
+unfolding counted number_of
 thrust_none engine.Jet engine.Jet = refl
 thrust_none engine.Jet engine.Turboprop = refl
 thrust_none engine.Turboprop engine.Jet = refl
@@ -224,10 +224,6 @@ judged_alike ds fs k n d e most same =
     ∙ ap (λ (j : ℕ). first_of (faults_at j n (engine_of (nth_line ds 1)) (came ds) fs)) e
     ∙ ap (λ (f : Configuration → Bool). first_of (faults_at k n (engine_of (nth_line ds 1)) f fs)) (sym (filled_is ds))
     ∙ ap (λ (x : Draft). first_of (faults_at k n x.engine (filled x) fs)) (sym same)
-
-pub line_past : (data_lines : List Fields) (fs : Fields) (k n : ℕ) → length data_lines + 1 ≡ k → 22 < k → data_fault n data_lines fs ≡ Some (fault.DataLines n)
-line_past ds fs k n e past =
-    ap (λ (b : Bool). or_else (cond b None (Some (fault.DataLines n))) (first_of (faults_at (length ds + 1) n (engine_of (nth_line ds 1)) (came ds) fs))) (lt-leb (length ds + 1) 22 (omega arith))
 
 -- the record after a data line without a fault
 pub draft_after : (data_lines : List Fields) (fs : Fields) (k n : ℕ) (d : Draft) → length data_lines + 1 ≡ k → d ≡ draft_of data_lines → first_of (faults_at k n d.engine (filled d) fs) ≡ None → after_line k d fs ≡ draft_of (data_lines ++ (fs ∷ []))

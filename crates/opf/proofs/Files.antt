@@ -10,11 +10,11 @@ use Rattle.opf.specs.Faults.{unless, or_else, judge}
 use Rattle.text.specs.Bytes.{every, is_byte}
 use Rattle.opf.specs.Text.{line_of, letters}
 use Rattle.opf.specs.Numbers.{number_of}
-use Rattle.opf.specs.DataLines.{Fields, natural, integer}
+use Rattle.opf.specs.DataLines.{Fields, counted}
 use Rattle.opf.specs.Files.{own_fields, is_end, data_lines, line_fault, blank, lines_fault, draft_of}
 
 pub empty_is : empty_draft ≡ draft_of []
-unfolding natural integer number_of
+unfolding counted number_of
 empty_is = refl
 
 -- a line of CR alone is no data line

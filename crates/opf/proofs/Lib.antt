@@ -6,7 +6,6 @@ mod Readings
 mod Drafts
 mod Files
 mod Numbered
-mod Rows
 mod Accepted
 mod Judged
 mod Configurations

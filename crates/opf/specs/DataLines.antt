@@ -35,18 +35,25 @@ abbrev pub number_fault : {X : Type 0} → ℕ → ℕ → Option Number → (Nu
 number_fault n k None value = Some (fault.NumberForm n k)
 number_fault n k (Some x) value = unless (is_some (value x)) (fault.Value n k)
 
-unfoldable pub natural_fault : ℕ → Fields → ℕ → Quantity → Option Fault
-natural_fault n fs k q = number_fault n k (number_of (field fs k)) (natural_in q)
+-- the fault of field k as a count of some kind
+unfoldable pub counted_fault : {X : Type 0} → (Quantity X → Number → Option X) → ℕ → Fields → ℕ → Quantity X → Option Fault
+counted_fault reads n fs k q = number_fault n k (number_of (field fs k)) (reads q)
 
--- the count that field k prints; 0 where it prints none
-unfoldable pub natural : Fields → ℕ → Quantity → ℕ
-natural fs k q = unwrap_or (bound (number_of (field fs k)) (natural_in q)) 0
+-- the count that field k prints; d where it prints none
+unfoldable pub counted : {X : Type 0} → (Quantity X → Number → Option X) → X → Fields → ℕ → Quantity X → X
+counted reads d fs k q = unwrap_or (bound (number_of (field fs k)) (reads q)) d
 
-unfoldable pub signed_fault : ℕ → Fields → ℕ → Quantity → Option Fault
-signed_fault n fs k q = number_fault n k (number_of (field fs k)) (signed_in q)
+abbrev pub natural_fault : ℕ → Fields → ℕ → Quantity ℕ → Option Fault
+natural_fault = counted_fault natural_in
 
-unfoldable pub integer : Fields → ℕ → Quantity → ℤ
-integer fs k q = unwrap_or (bound (number_of (field fs k)) (signed_in q)) (pos 0)
+abbrev pub natural : Fields → ℕ → Quantity ℕ → ℕ
+natural = counted natural_in 0
+
+abbrev pub signed_fault : ℕ → Fields → ℕ → Quantity ℤ → Option Fault
+signed_fault = counted_fault signed_in
+
+abbrev pub integer : Fields → ℕ → Quantity ℤ → ℤ
+integer = counted signed_in (pos 0)
 
 -- at least k fields
 abbrev pub count_fault : ℕ → Fields → ℕ → Option Fault
@@ -79,7 +86,7 @@ masses_faults n fs =
 
 -- A data line of which one number is read, at field k.
 
-abbrev pub one_faults : ℕ → Fields → ℕ → Quantity → List (Option Fault)
+abbrev pub one_faults : ℕ → Fields → ℕ → Quantity ℕ → List (Option Fault)
 one_faults n fs k q = count_fault n fs k ∷ natural_fault n fs k q ∷ []
 
 -- Data lines 5 to 9: field 2 is the configuration's word; of the last four fields the first three are stall speed, CD0 and CD2.
@@ -99,7 +106,7 @@ abbrev pub line_naming : Configuration → List Fields → Option Fields
 line_naming c [] = None
 line_naming c (fs ∷ rest) = cond (names c fs) (Some fs) (line_naming c rest)
 
-abbrev pub parasitic : Option Configuration → Quantity
+abbrev pub parasitic : Option Configuration → Quantity ℕ
 parasitic None = quantity.drag
 parasitic (Some c) = quantity.parasitic_drag c
 
@@ -132,20 +139,12 @@ configuration_faults n came fs = count_fault n fs 6 ∷ new_fault n came (config
 
 -- Data line 16: CTc1 to CTc5, the third by engine.
 
-abbrev pub ctc3_fault : EngineType → ℕ → Fields → Option Fault
-ctc3_fault engine.Jet n fs = natural_fault n fs 3 quantity.jet_ctc3
-ctc3_fault engine.Turboprop n fs = signed_fault n fs 3 quantity.turboprop_ctc3
-
-abbrev pub ctc3_of : EngineType → Fields → ℤ
-ctc3_of engine.Jet fs = pos (natural fs 3 quantity.jet_ctc3)
-ctc3_of engine.Turboprop fs = integer fs 3 quantity.turboprop_ctc3
-
 abbrev pub thrust_of : EngineType → Fields → DraftThrust
 thrust_of e fs =
     record {
       ctc1 = natural fs 1 (quantity.ctc1 e);
       ctc2 = natural fs 2 quantity.ctc2;
-      ctc3 = ctc3_of e fs;
+      ctc3 = integer fs 3 (quantity.ctc3 e);
       ctc4 = integer fs 4 quantity.ctc4;
       ctc5 = natural fs 5 quantity.ctc5;
     }
@@ -155,7 +154,7 @@ thrust_faults e n fs =
     count_fault n fs 5
     ∷ natural_fault n fs 1 (quantity.ctc1 e)
     ∷ natural_fault n fs 2 quantity.ctc2
-    ∷ ctc3_fault e n fs
+    ∷ signed_fault n fs 3 (quantity.ctc3 e)
     ∷ signed_fault n fs 4 quantity.ctc4
     ∷ natural_fault n fs 5 quantity.ctc5
     ∷ []
@@ -190,7 +189,7 @@ consumption_of fs = record { cf1 = natural fs 1 quantity.cf1; cf2 = natural fs 2
 abbrev pub idle_of : Fields → DraftIdle
 idle_of fs = record { cf3 = natural fs 1 quantity.cf3; cf4 = natural fs 2 quantity.cf4 }
 
-abbrev pub two_faults : ℕ → Fields → Quantity → Quantity → List (Option Fault)
+abbrev pub two_faults : ℕ → Fields → Quantity ℕ → Quantity ℕ → List (Option Fault)
 two_faults n fs q r = count_fault n fs 2 ∷ natural_fault n fs 1 q ∷ natural_fault n fs 2 r ∷ []
 
 -- data line k of some, counted from 1; without fields where there is none

@@ -25,10 +25,10 @@ IsNumber None u v = ⊥
 IsNumber (Some x) u v = v *ℤ pos (10 ^ lowering x) ≡ signed_value x.negative x.digits *ℤ pos (10 ^ raising u x)
 
 -- v counts units of ten to the -decimals, and v of them are the number that the field prints
-abbrev pub Prints : List ℕ → Quantity → ℤ → Type 0
+abbrev pub Prints : {X : Type 0} → List ℕ → Quantity X → ℤ → Type 0
 Prints s q v = IsNumber (number_of s) q.decimals v
 
-abbrev pub PrintsCount : List ℕ → Quantity → ℕ → Type 0
+abbrev pub PrintsCount : List ℕ → Quantity ℕ → ℕ → Type 0
 PrintsCount s q v = Prints s q (pos v)
 
 -- the data line that names a configuration
@@ -45,7 +45,7 @@ pub record RowPrinted (fs : Fields) (c : Configuration) (r : Row) : Type 0 where
 pub record JetPrinted (fs : Fields) (c : JetCoefficients) : Type 0 where
   pub ctc1 : PrintsCount (field fs 1) (quantity.ctc1 engine.Jet) c.ctc1
   pub ctc2 : PrintsCount (field fs 2) quantity.ctc2 c.ctc2
-  pub ctc3 : PrintsCount (field fs 3) quantity.jet_ctc3 c.ctc3
+  pub ctc3 : Prints (field fs 3) quantity.jet_ctc3 (pos c.ctc3)
 
 pub record TurbopropPrinted (fs : Fields) (c : TurbopropCoefficients) : Type 0 where
   pub ctc1 : PrintsCount (field fs 1) (quantity.ctc1 engine.Turboprop) c.ctc1

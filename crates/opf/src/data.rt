@@ -1,77 +1,58 @@
-// One data line: its number in the text, and the part of it that holds its fields.
-ghost use Rattle.std.specs.Prelude.{◌≡◌, ◌≤◌, IfOk};
+// What is read of a data line.
+ghost use Rattle.std.specs.Prelude.{◌≡◌, ◌≤◌, length};
+ghost use Rattle.refusal.specs.declared.fault.Fault.TheVariants as fault;
 ghost use Rattle.opf.specs.Faults.{Judges};
 ghost use Rattle.opf.specs.Fields.{field};
-ghost use Rattle.opf.specs.DataLines.{count_fault, natural_fault, natural, signed_fault, integer};
+ghost use Rattle.opf.specs.DataLines.{count_fault, counted_fault, counted};
 ghost use Rattle.opf.specs.Lines.{line_fields, done};
 
 use crate::fields::{field_at, field_count};
 use crate::line::DataLine;
-use crate::number::Quantity;
-use crate::numbers;
+use crate::number::{Number, Quantity};
+use crate::numbers::Counted;
 use refusal::fault::Fault;
 
 impl DataLine<'_> {
+    pub(crate) fn field_count(&self) -> u32
+        ensures { result ≡ length (line_fields self.now) }
+    {
+        field_count(self.text) as u32
+    }
+
     // Field k, counted from 1; empty where there is none.
     pub(crate) fn field(&self, k: u32) -> &[u8]
-        requires { 1 ≤ k }
         ensures { result.now ≡ field (line_fields self.now) k }
     {
-        field_at(self.text, (k - 1) as usize)
+        field_at(self.text, k.saturating_sub(1) as usize)
+    }
+
+    // Field k is a word that does not fit.
+    pub(crate) fn word_fault(&self, k: u32) -> Fault
+        ensures { result ≡ fault.Word self.now.number k }
+    {
+        Fault::Word {
+            line: self.number,
+            field: k,
+        }
     }
 
     // At least k fields.
-    pub(crate) fn at_least(&self, k: usize) -> Result<(), Fault>
+    pub(crate) fn at_least(&self, k: u32) -> Result<(), Fault>
         ensures { Judges result (count_fault self.now.number (line_fields self.now) k) done }
     {
-        if field_count(self.text) < k {
+        if self.field_count() < k {
             return Err(Fault::FieldCount { line: self.number });
         }
         Ok(())
     }
 
     // Field k as a count within its range.
-    pub(crate) fn count(&self, k: u32, q: Quantity) -> Result<u64, Fault>
-        requires first { 1 ≤ k }
-        requires few { q.decimals ≤ 16 }
-        requires most { q.high ≤ 100000000000 }
-        ensures judged { Judges result (natural_fault self.now.number (line_fields self.now) k q) (natural (line_fields self.now) k q) }
-        ensures bound { IfOk result (λ v. v ≤ q.high) }
+    pub(crate) fn count<T: Counted>(&self, k: u32, q: Quantity<T>) -> Result<T, Fault>
+        ensures { Judges result (counted_fault T.reads self.now.number (line_fields self.now) k q) (counted T.reads T.none (line_fields self.now) k q) }
     {
-        let Some(x) = numbers::number(self.field(k)) else {
-            return Err(Fault::NumberForm {
-                line: self.number,
-                field: k,
-            });
-        };
-        match numbers::natural(x, q) {
-            Some(v) => Ok(v),
-            None => Err(Fault::Value {
-                line: self.number,
-                field: k,
-            }),
-        }
-    }
-
-    // Field k as a count of either sign.
-    pub(crate) fn signed_count(&self, k: u32, q: Quantity) -> Result<i64, Fault>
-        requires first { 1 ≤ k }
-        requires few { q.decimals ≤ 16 }
-        requires most { q.high ≤ 100000000000 }
-        ensures { Judges result (signed_fault self.now.number (line_fields self.now) k q) (integer (line_fields self.now) k q) }
-    {
-        let Some(x) = numbers::number(self.field(k)) else {
-            return Err(Fault::NumberForm {
-                line: self.number,
-                field: k,
-            });
-        };
-        match numbers::signed(x, q) {
-            Some(v) => Ok(v),
-            None => Err(Fault::Value {
-                line: self.number,
-                field: k,
-            }),
-        }
+        let line = self.number;
+        let field = k;
+        let x = Number::read(self.field(k)).ok_or(Fault::NumberForm { line, field })?;
+        T::counted(x, q).ok_or(Fault::Value { line, field })
     }
 }

@@ -23,9 +23,8 @@ impl Progress {
             number,
             text: up_to_slash(rest),
         };
-        let place = self.place;
-        take_line(&mut self.draft, place, &line)?;
-        self.place = place + 1;
+        take_line(&mut self.draft, self.place, &line)?;
+        self.place += 1;
         Ok(false)
     }
 }

@@ -1,4 +1,4 @@
-// The aircraft record of a plain record that is read without a fault.
+// The aircraft record of a plain record that is read without a fault: its ranges are judged, and a TryFrom would judge them again.
 ghost use Rattle.std.specs.Prelude.{◌≡◌, List, Some};
 ghost use Rattle.aircraft.specs.Values.{fuel_of};
 ghost use Rattle.aircraft.specs.Words.{engine_type};
@@ -40,12 +40,13 @@ fn rows(d: &[Option<DraftRow>; 5]) -> Rows
     requires { RangedRows d.now }
     ensures { rows_values result ≡ d.now }
 {
+    let [cruise, initial, takeoff, approach, landing] = *d;
     Rows {
-        cruise: row(d[0]),
-        initial: row(d[1]),
-        takeoff: row(d[2]),
-        approach: row(d[3]),
-        landing: row(d[4]),
+        cruise: row(cruise),
+        initial: row(initial),
+        takeoff: row(takeoff),
+        approach: row(approach),
+        landing: row(landing),
     }
 }
 

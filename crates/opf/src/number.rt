@@ -1,18 +1,17 @@
 // A number field of a file, and the unit and range in which a value is read.
 
-// The five digits times ten to the exponent less five.
+// digits × 10 ^ (exponent - 5), or minus that: the sign stands apart, as a count takes it off and judges it by itself.
 #[derive(Clone, Copy, Debug)]
 pub(crate) struct Number {
     pub(crate) negative: bool,
     pub(crate) digits: u32,
-    pub(crate) lowered: bool,
-    pub(crate) exponent: u32,
+    pub(crate) exponent: i8,
 }
 
 // A unit of ten to the -`decimals` of the file's own, and the range in it.
 #[derive(Clone, Copy, Debug)]
-pub(crate) struct Quantity {
-    pub(crate) decimals: u32,
-    pub(crate) low: u64,
-    pub(crate) high: u64,
+pub(crate) struct Quantity<T> {
+    pub(crate) decimals: u8,
+    pub(crate) low: T,
+    pub(crate) high: T,
 }

@@ -1,17 +1,13 @@
 // What is read of each data line.
-ghost use Rattle.std.specs.Prelude.{◌≡◌, ◌≤◌, length, Some};
-ghost use Rattle.aircraft.specs.Words.{configuration_row};
+ghost use Rattle.std.specs.Prelude.{◌≡◌, length, Some};
 ghost use Rattle.opf.specs.Faults.{first_of, Judges};
 ghost use Rattle.opf.specs.Lines.{line_fields};
-ghost use Rattle.opf.specs.DataLines.{engine_faults, engine_of, masses_faults, masses_of, natural, one_faults, configuration_of, row_faults, row_of, thrust_faults, thrust_of, ctc3_fault, ctc3_of, descent_faults, descent_of, two_faults, consumption_of, idle_of};
-ghost use Rattle.opf.specs.Quantities as quantity;
+ghost use Rattle.opf.specs.DataLines.{engine_faults, engine_of, masses_faults, masses_of, natural, one_faults, configuration_of, row_faults, row_of, thrust_faults, thrust_of, descent_faults, descent_of, two_faults};
 
 use crate::line::DataLine;
 use crate::number::Quantity;
 use crate::quantities;
-use aircraft::draft::{
-    DraftConsumption, DraftDescent, DraftIdle, DraftMasses, DraftRow, DraftThrust,
-};
+use aircraft::draft::{DraftDescent, DraftMasses, DraftRow, DraftThrust};
 use aircraft::words::{Configuration, EngineType};
 use refusal::fault::Fault;
 
@@ -19,10 +15,7 @@ pub(crate) fn engine(line: &DataLine) -> Result<EngineType, Fault>
     ensures { Judges result (first_of (engine_faults line.now.number (line_fields line.now))) (engine_of (line_fields line.now)) }
 {
     line.at_least(4)?;
-    let unknown = Fault::Word {
-        line: line.number,
-        field: 4,
-    };
+    let unknown = line.word_fault(4);
     EngineType::try_from(line.field(4)).map_err(|_| unknown)
 }
 
@@ -44,23 +37,19 @@ pub(crate) fn masses(line: &DataLine) -> Result<DraftMasses, Fault>
 }
 
 // A data line of which one number is read, at field k.
-pub(crate) fn one(line: &DataLine, k: u32, q: Quantity) -> Result<u64, Fault>
-    requires first { 1 ≤ k }
-    requires few { q.decimals ≤ 16 }
-    requires most { q.high ≤ 100000000000 }
+pub(crate) fn one(line: &DataLine, k: u32, q: Quantity<u64>) -> Result<u64, Fault>
     ensures { Judges result (first_of (one_faults line.now.number (line_fields line.now) k q)) (natural (line_fields line.now) k q) }
 {
-    line.at_least(k as usize)?;
+    line.at_least(k)?;
     line.count(k, q)
 }
 
-fn ctc3(line: &DataLine, e: EngineType) -> Result<i64, Fault>
-    ensures { Judges result (ctc3_fault e line.now.number (line_fields line.now)) (ctc3_of e (line_fields line.now)) }
+// A data line of which fields 1 and 2 are read.
+pub(crate) fn two(line: &DataLine, q: Quantity<u64>, r: Quantity<u64>) -> Result<(u64, u64), Fault>
+    ensures { Judges result (first_of (two_faults line.now.number (line_fields line.now) q r)) (natural (line_fields line.now) 1 q, natural (line_fields line.now) 2 r) }
 {
-    match e {
-        EngineType::Jet => Ok(line.count(3, quantities::JET_CTC3)? as i64),
-        EngineType::Turboprop => line.signed_count(3, quantities::TURBOPROP_CTC3),
-    }
+    line.at_least(2)?;
+    Ok((line.count(1, q)?, line.count(2, r)?))
 }
 
 pub(crate) fn thrust(line: &DataLine, e: EngineType) -> Result<DraftThrust, Fault>
@@ -69,8 +58,8 @@ pub(crate) fn thrust(line: &DataLine, e: EngineType) -> Result<DraftThrust, Faul
     line.at_least(5)?;
     let ctc1 = line.count(1, quantities::ctc1(e))?;
     let ctc2 = line.count(2, quantities::CTC2)?;
-    let ctc3 = ctc3(line, e)?;
-    let ctc4 = line.signed_count(4, quantities::CTC4)?;
+    let ctc3 = line.count(3, quantities::ctc3(e))?;
+    let ctc4 = line.count(4, quantities::CTC4)?;
     let ctc5 = line.count(5, quantities::CTC5)?;
     Ok(DraftThrust {
         ctc1,
@@ -99,33 +88,14 @@ pub(crate) fn descent(line: &DataLine) -> Result<DraftDescent, Fault>
     })
 }
 
-pub(crate) fn consumption(line: &DataLine) -> Result<DraftConsumption, Fault>
-    ensures { Judges result (first_of (two_faults line.now.number (line_fields line.now) quantity.cf1 quantity.cf2)) (consumption_of (line_fields line.now)) }
-{
-    line.at_least(2)?;
-    let cf1 = line.count(1, quantities::CF1)?;
-    let cf2 = line.count(2, quantities::CF2)?;
-    Ok(DraftConsumption { cf1, cf2 })
-}
-
-pub(crate) fn idle(line: &DataLine) -> Result<DraftIdle, Fault>
-    ensures { Judges result (first_of (two_faults line.now.number (line_fields line.now) quantity.cf3 quantity.cf4)) (idle_of (line_fields line.now)) }
-{
-    line.at_least(2)?;
-    let cf3 = line.count(1, quantities::CF3)?;
-    let cf4 = line.count(2, quantities::CF4)?;
-    Ok(DraftIdle { cf3, cf4 })
-}
-
-// The three numbers of a configuration line, which has `count` fields.
-pub(crate) fn row(line: &DataLine, count: u32, c: Configuration) -> Result<DraftRow, Fault>
-    requires some { 6 ≤ count }
-    requires all { count ≡ length (line_fields line.now) }
-    requires named { configuration_of (line_fields line.now) ≡ Some c }
+// The three numbers of a configuration line, which end one field before its last.
+pub(crate) fn row(line: &DataLine, c: Configuration) -> Result<DraftRow, Fault>
+    requires { configuration_of (line_fields line.now) ≡ Some c }
     ensures { Judges result (first_of (row_faults line.now.number (line_fields line.now))) (row_of (line_fields line.now)) }
 {
-    let stall = line.count(count - 3, quantities::STALL_SPEED)?;
-    let cd0 = line.count(count - 2, quantities::parasitic_drag(c))?;
-    let cd2 = line.count(count - 1, quantities::DRAG)?;
+    let last = line.field_count();
+    let stall = line.count(last.saturating_sub(3), quantities::STALL_SPEED)?;
+    let cd0 = line.count(last.saturating_sub(2), quantities::parasitic_drag(c))?;
+    let cd2 = line.count(last.saturating_sub(1), quantities::DRAG)?;
     Ok(DraftRow { stall, cd0, cd2 })
 }

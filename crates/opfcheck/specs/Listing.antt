@@ -2,7 +2,7 @@
 use Rattle.std.specs.Prelude.{ℕ, List, [], ◌∷◌, ◌++◌, codes, decimal}
 use Rattle.std.specs.Fmt.{signed_decimal}
 use Rattle.refusal.specs.declared.fault.Fault.{Fault}
-use Rattle.refusal.specs.Numbers.{fault_number, fault_line, fault_field, fault_layer, layer_word}
+use Rattle.refusal.specs.Numbers.{fault_figures, fault_layer, layer_word}
 use Rattle.aircraft.specs.declared.record.Aircraft.{Aircraft}
 use Rattle.aircraft.specs.declared.record.Descent.{Descent}
 use Rattle.aircraft.specs.declared.record.Engine.{Engine}
@@ -25,8 +25,7 @@ abbrev pub count : List ℕ → ℕ → List ℕ → List ℕ
 count name n after = line name (decimal n) after
 
 abbrev pub fault_text : Fault → List ℕ
-fault_text f =
-    codes "no " ++ (decimal (fault_number f) ++ (32 ∷ (decimal (fault_line f) ++ (32 ∷ (decimal (fault_field f) ++ (32 ∷ (layer_word (fault_layer f) ++ (10 ∷ []))))))))
+fault_text f = codes "no " ++ (fault_figures f ++ (32 ∷ (layer_word (fault_layer f) ++ (10 ∷ []))))
 
 abbrev pub masses_text : Masses → List ℕ
 masses_text m = count (codes "mass_ref") m.reference (count (codes "mass_min") m.minimum (count (codes "mass_max") m.maximum []))

@@ -3,65 +3,35 @@
 
 mod listing;
 
-use crate::listing::{FaultLine, Listing};
-use opf::read::{MOST_BYTES, read};
-use std::io::Read;
+use crate::listing::Lines;
+use aircraft_file::input::aircraft_from;
 use std::{env, fs, io};
 
-// One byte more than a file may have tells that it has too many.
-fn bytes_of(rt: &HostRuntime, name: &str) -> io::Result<Vec<u8>> {
-    let mut file = fs::open(rt, name)?.take(MOST_BYTES as u64 + 1);
-    let mut bytes = Vec::new(rt.alloc());
-    file.read_to_end(&mut bytes)?;
-    Ok(bytes)
-}
-
+// Prints what the file of a name gives.
 fn check(rt: &HostRuntime, name: &str) -> io::Result<()> {
-    let bytes = bytes_of(rt, name)?;
-    match read(bytes.as_slice()) {
-        Ok(aircraft) => rt.print(Listing { aircraft }),
-        Err(fault) => rt.print(FaultLine { fault }),
-    }
-}
-
-// Answers whether the file could be read.
-fn told(rt: &HostRuntime, name: &str) -> io::Result<bool> {
-    match check(rt, name) {
-        Ok(()) => Ok(true),
-        Err(e) => {
-            eprintln!(rt; "opfcheck: {name}: {e}")?;
-            Ok(false)
-        }
+    match aircraft_from(rt.alloc(), fs::open(rt, name)?)? {
+        Ok(aircraft) => rt.print(Lines(&aircraft)),
+        Err(fault) => rt.print(Lines(&fault)),
     }
 }
 
 fn main(rt: HostRuntime) -> io::Result<()> {
-    let mut names = env::args(&rt)?;
-    let _program = names.next();
+    let names = env::args(&rt)?.skip(1);
     let count = names.len();
-    if count == 0 {
-        return check_alone(&rt, "aircraft.opf");
-    }
-    let mut all = true;
-    for name in names {
+    let alone = if count == 0 {
+        Some(String::from_str(rt.alloc(), "aircraft.opf")?)
+    } else {
+        None
+    };
+    let mut all = Ok(());
+    for name in names.chain(alone) {
         if count > 1 {
             println!(rt; "file {name}")?;
         }
-        if !told(&rt, name.as_str())? {
-            all = false;
+        if let Err(e) = check(&rt, name.as_str()) {
+            eprintln!(rt; "opfcheck: {name}: {e}")?;
+            all = Err(io::Error::from(io::ErrorKind::NotFound));
         }
     }
-    if all {
-        Ok(())
-    } else {
-        Err(io::Error::from(io::ErrorKind::NotFound))
-    }
-}
-
-fn check_alone(rt: &HostRuntime, name: &str) -> io::Result<()> {
-    if told(rt, name)? {
-        Ok(())
-    } else {
-        Err(io::Error::from(io::ErrorKind::NotFound))
-    }
+    all
 }

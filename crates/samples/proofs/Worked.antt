@@ -4,7 +4,7 @@ use Rattle.aircraft.specs.declared.record.Aircraft.{Aircraft}
 use Rattle.air.specs.declared.bench.Bench.{Bench}
 use Rattle.opf.specs.Numbers.{number_of, fixed_point, natural_in, signed_in}
 use Rattle.opf.specs.DataLines.{natural_fault, signed_fault}
-use Rattle.samples.specs.SampleJet.{SampleJet}
+use Rattle.sample_jet.specs.SampleJet.{SampleJet}
 use Rattle.samples.specs.SampleSheet.{SampleBench, sample_setting, SampleSheet}
 use Rattle.samples.specs.Worked.{JetFigures, WorkedFigures}
 use Rattle.samples.proofs.Exists.{sample_exists}

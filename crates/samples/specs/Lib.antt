@@ -1,3 +1,2 @@
-pub mod SampleJet
 pub mod SampleSheet
 pub mod Worked

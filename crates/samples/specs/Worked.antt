@@ -19,7 +19,7 @@ use Rattle.leg.specs.declared.phase.Phase.TheVariants.{Descent}
 use Rattle.leg.specs.declared.figures.Figures.{Figures}
 use Rattle.leg.specs.Configurations.{configuration_of}
 use Rattle.leg.specs.Legs.{deviation_at, leg_available}
-use Rattle.samples.specs.SampleJet.{SampleJet}
+use Rattle.sample_jet.specs.SampleJet.{SampleJet}
 use Rattle.samples.specs.SampleSheet.{SampleBench, sample_setting, SampleSheet}
 
 -- line n of a file, the sample jet's thrust coefficients but for the third

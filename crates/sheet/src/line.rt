@@ -22,7 +22,7 @@ impl Sheet {
     {
         Sheet {
             aircraft,
-            kind: AnyKind::of(&aircraft),
+            kind: AnyKind::from(&aircraft),
             day: None,
             flight: None,
         }

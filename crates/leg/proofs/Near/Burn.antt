@@ -1,13 +1,12 @@
 -- The burn of a leg is within its phase's rate of the exact burn at the same mass.
 --   thrust_error flow_error     how far thrust used and flow used are from their exact values, by phase
-use Rattle.std.proofs.Common.{◌≡◌, ℕ, ◌+◌, ◌*◌, ◌^◌, ◌≤◌, Bool, true, false, cond, ◌&&◌, ltb, pos, arith}
+use Rattle.std.proofs.Common.{◌≡◌, ℕ, ◌+◌, ◌*◌, ◌^◌, ◌≤◌, Bool, true, false, ◌&&◌, pos, arith, rules}
 use Rattle.std.specs.Int.{int_div_euclid}
 use Rattle.exact.specs.Rational.{ℚ, nat, ◌≤ℚ◌, ◌<ℚ◌, Near}
 use Rattle.exact.proofs.Laws.{nat-≥0, nat-≤, near_weaken}
 use Rattle.aircraft.specs.declared.record.Aircraft.{Aircraft}
 use Rattle.aircraft.specs.declared.record.Descent.{Descent}
 use Rattle.aircraft.specs.declared.words.Configuration.{Configuration}
-use Rattle.aircraft.specs.declared.words.Configuration.TheVariants as flaps
 use Rattle.air.specs.Day.{Air}
 use Rattle.engine.specs.Meaning.{KindMeaning, KindLaws}
 use Rattle.leg.specs.declared.phase.Phase.{Phase}
@@ -34,16 +33,8 @@ flow_error phase.Climb = 335
 flow_error phase.Cruise = 1103
 flow_error phase.Descent = 339
 
-either_high : (b : Bool) (m n t : ℕ) → m ≤ t → n ≤ t → cond b m n ≤ t
-either_high true m n t p q = p
-either_high false m n t p q = q
-
 descent_factor_high : (d : Descent) (c : Configuration) (h : ℕ) → descent_factor d c h ≤ 10 ^ 8
-descent_factor_high d flaps.Cruise h = either_high (ltb d.level h) d.high d.low (10 ^ 8) d.high_most d.low_most
-descent_factor_high d flaps.InitialClimb h = either_high (ltb d.level h) d.high d.low (10 ^ 8) d.high_most d.low_most
-descent_factor_high d flaps.TakeOff h = either_high (ltb d.level h) d.high d.low (10 ^ 8) d.high_most d.low_most
-descent_factor_high d flaps.Approach h = d.approach_most
-descent_factor_high d flaps.Landing h = d.landing_most
+descent_factor_high d c h = search rules
 
 module _ (a : Aircraft) (air : Air) (f : Figures) where
   pub leg_force_near : Near (nat (leg_force a air f)) (exact_leg_force a air f) (nat 2)
@@ -54,12 +45,7 @@ module _ (a : Aircraft) (air : Air) (f : Figures) where
   unfolding exact_available
   leg_available_near k laws range =
       available_near _ _ (temperature_near a.temperature (deviation_at air f)) (held_high (int_div_euclid (warming a.temperature (deviation_at air f)) (pos 1000))) _ _
-      (record {
-        near = laws.thrust_near f.altitude f.speed range.low range.slowest range.fastest;
-        high = laws.thrust_high f.altitude f.speed range.low range.slowest range.fastest;
-        exact_low = laws.exact_thrust_low f.altitude f.speed range.low range.slowest range.fastest;
-        exact_high = laws.exact_thrust_high f.altitude f.speed range.low range.slowest range.fastest;
-      })
+      (search rules)
       (exact_temperature_low a.temperature (deviation_at air f))
       (exact_temperature_high a.temperature (deviation_at air f))
 
@@ -79,8 +65,7 @@ module _ (a : Aircraft) (air : Air) (f : Figures) where
 
 -- what is not refused and needed
 needed : (need refused : Bool) → need && refused ≡ false → need ≡ true → refused ≡ false
-needed true refused p q = p
-needed false refused p q = cc
+needed need refused p q = cc
 
 -- the thrust used in a phase
 abbrev leg_thrust : Aircraft → KindMeaning → Air → Phase → Configuration → ℕ × ℕ → Figures → ℕ → ℕ
@@ -112,9 +97,7 @@ module _ (a : Aircraft) (k : KindMeaning) (air : Air) (c : Configuration) (pair 
       (near_weaken (laws.idle_near f.altitude ok.figures.low) (nat-≤ (omega arith)))
 
 rate_enough : (p : Phase) → flow_error p + 60 ≤ 60 * leg_rate p
-rate_enough phase.Climb = omega arith
-rate_enough phase.Cruise = omega arith
-rate_enough phase.Descent = omega arith
+rate_enough p = search rules
 
 pub burn_near : BurnNear
 unfolding exact_burn_with

@@ -2,7 +2,7 @@
 use Rattle.std.proofs.Common.{◌≡◌, ℕ, ◌+◌, ◌-◌, ◌*◌, ◌/◌, ◌^◌, ◌≤◌, [], ◌∷◌, ap, ⊎_elim, mul-le-mul_left, div-mul-le_self, arith}
 use native.Mathlib.Nat.{lt-div-mul-add}
 use Rattle.exact.specs.Rational.{ℚ, nat, ◌+ℚ◌, ◌*ℚ◌, ◌÷ℚ◌, ◌≤ℚ◌, ◌<ℚ◌, Near}
-use Rattle.exact.proofs.Laws.{≤_trans, nat-≥0, nat-≤, nat-<, <-≤_trans, *_mono_left, *_mono₂, *-≥0, ÷-≤, ≤-÷, ÷-≥0, near_in, near_weaken, near-+, near-≈, near_floor, either-≤, nat-+, ≈_refl}
+use Rattle.exact.proofs.Laws.{≤_trans, nat-≥0, nat-≤, *_mono_left, *_mono₂, *-≥0, ÷-≤, ≤-÷, ÷-≥0, near_in, near_weaken, near-+, near-≈, near_floor, either-≤, nat-+, ≈_refl}
 use Rattle.exact.proofs.Linear.{linear, at, con, ◌⊕◌, ◌≼◌, near}
 use Rattle.engine.specs.Bounds.{quotient}
 use Rattle.engine.specs.Rounding.{near_times, times_near, near_high}
@@ -58,10 +58,10 @@ module _ (w q : ℕ) (x y : ℚ) (heavy : 1000 ≤ w) (lift : 10 * w ≤ 3 * q) 
   force_high = near_high (q + 2) (omega arith) presses
 
   pub force_positive : nat 0 <ℚ y
-  force_positive = <-≤_trans (nat-< {b = q - 2} (omega arith)) force_low
+  force_positive = grind arith
 
   weight-≥0 : nat 0 ≤ℚ x
-  weight-≥0 = ≤_trans (nat-≥0 (w - 2)) weight_low
+  weight-≥0 = grind arith
 
   above : exact_loading x y ≤ℚ nat (loading w q + 15)
   above =

@@ -1,12 +1,11 @@
 -- Flow and burn are near their exact values, by phase.
-use Rattle.std.proofs.Common.{◌≡◌, ℕ, ◌+◌, ◌*◌, ◌^◌, ◌≤◌, max, true, false, [], ◌∷◌, refl, ⊎_elim, mul-le-mul_right, arith}
+use Rattle.std.proofs.Common.{◌≡◌, ℕ, ◌+◌, ◌*◌, ◌^◌, ◌≤◌, max, true, false, [], ◌∷◌, ⊎_elim, mul-le-mul_right, arith, rules}
 use Rattle.exact.specs.Rational.{ℚ, nat, maxℚ, ◌≤ℚ◌, Near}
 use Rattle.exact.proofs.Laws.{≤_total, ≈_refl, nat-≥0, nat-≤, nat_max, near-≈, near_sym, near_trans, near_weaken, near_max}
 use Rattle.exact.proofs.Linear.{linear, at, ◌⊖◌, ◌⊛◌, ◌≼◌, near}
 use Rattle.engine.specs.Meaning.{KindMeaning, KindLaws}
 use Rattle.engine.specs.Rounding.{near_times}
 use Rattle.aircraft.specs.declared.words.Configuration.{Configuration}
-use Rattle.aircraft.specs.declared.words.Configuration.TheVariants as flaps
 use Rattle.leg.specs.declared.phase.Phase.TheVariants.{Climb, Cruise, Descent}
 use Rattle.leg.specs.Configurations.{needs_nominal}
 use Rattle.leg.specs.Rules.{flow_used, burned}
@@ -52,11 +51,7 @@ greater_flow_near m i x y n h = near-≈ (nat_max m i) (≈_refl _) (near_max n 
 -- where no nominal flow is needed, none is asked to be near
 pub descending_flow_near : {e : ℕ} (c : Configuration) (factor m i : ℕ) (x y : ℚ) → (needs_nominal Descent c ≡ true → Near (nat m) x (nat e)) → Near (nat i) y (nat e) → Near (nat (flow_used Descent c factor m i)) (exact_flow_used Descent c factor x y) (nat e)
 unfolding exact_flow_used
-descending_flow_near flaps.Cruise factor m i x y n h = h
-descending_flow_near flaps.InitialClimb factor m i x y n h = h
-descending_flow_near flaps.TakeOff factor m i x y n h = h
-descending_flow_near flaps.Approach factor m i x y n h = greater_flow_near m i x y (n refl) h
-descending_flow_near flaps.Landing factor m i x y n h = greater_flow_near m i x y (n refl) h
+descending_flow_near c factor m i x y n h = search (rules, greater_flow_near)
 
 -- a flow's error in mg/min against a rate in mg a second
 pub burned_near : {e : ℕ} (rate flow s : ℕ) (x : ℚ) → e + 60 ≤ 60 * rate → 1 ≤ s → Near (nat flow) x (nat e) → Near (nat (burned flow s)) (exact_burned x s) (nat (rate * s))

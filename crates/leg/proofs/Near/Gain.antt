@@ -2,7 +2,7 @@
 use Rattle.std.proofs.Common.{ℕ, ◌+◌, ◌^◌, [], ◌∷◌, arith}
 use Rattle.exact.specs.Rational.{ℚ, nat, ◌+ℚ◌, ◌-ℚ◌, ◌*ℚ◌, ◌≤ℚ◌, ◌≈◌}
 use Rattle.exact.proofs.Laws.{≤_refl, ≤_trans, ≈_refl, ≈→≤, min_mono}
-use Rattle.exact.proofs.Linear.{linear, at, con, ◌⊕◌, ◌⊖◌, ◌⊛◌, ◌≼◌, ◌≋◌, near}
+use Rattle.exact.proofs.Linear.{linear, at, con, ◌⊕◌, ◌⊛◌, ◌≼◌, ◌≋◌, near}
 use Rattle.aircraft.specs.declared.record.Aircraft.{Aircraft}
 use Rattle.aircraft.specs.declared.words.Configuration.{Configuration}
 use Rattle.air.specs.Day.{Air}
@@ -116,9 +116,11 @@ module _ (a : Aircraft) (k : KindMeaning) (air : Air) (c : Configuration) (pair 
   unfolding exact_burn_with exact_thrust exact_thrust_used
   descent_steady = ≈_refl _
 
+steady : {b b' : ℚ} → b ≈ b' → b' -ℚ b ≤ℚ nat 0
+steady e = grind arith
+
 steady_gains : {b b' x x' : ℚ} → b ≈ b' → x ≤ℚ x' → b' -ℚ b ≤ℚ x' -ℚ x
-steady_gains {b} {b'} {x} {x'} e h =
-    linear (b ∷ b' ∷ x ∷ x' ∷ []) (at 0 ≋ at 1 ∷ at 2 ≼ at 3 ∷ []) (at 1 ⊖ at 0 ≼ at 3 ⊖ at 2) (λ d u w p h. omega arith) (e, (h, tt))
+steady_gains e h = ≤_trans (steady e) (more h)
 
 pub burn_rises : BurnRises
 burn_rises a k air Climb c pair f mass laws day bounds ok x x' low h high = ≈→≤ (climb_steady a k air c pair f x x')

@@ -1,19 +1,19 @@
 -- How a multiple, the least of two, the exact weight and the exact drag go with what they are taken of.
 use Rattle.std.proofs.Common.{ℕ, ◌*◌, ◌^◌, ◌<◌, ◌≤◌, [], ◌∷◌, ⊎_elim, arith}
 use Rattle.exact.specs.Rational.{ℚ, nat, ◌+ℚ◌, ◌-ℚ◌, ◌*ℚ◌, ◌÷ℚ◌, minℚ, ◌≤ℚ◌, ◌<ℚ◌, ◌≈◌}
-use Rattle.exact.proofs.Laws.{≤_trans, ≈_refl, ≈→≥, <→≤, nat-≥0, nat-≤, nat-<, +-*, *_comm, *_assoc, *-−, *-≥0, *_mono, *_mono_left, *_mono₂, difference_of_squares, ÷-*, ÷-≤, ÷-≥0, ÷_mono, ÷-≈, min_left, min_right, min_either}
-use Rattle.exact.proofs.Linear.{linear, at, con, ◌⊕◌, ◌⊖◌, ◌⊛◌, ◌≼◌, ◌≋◌}
+use Rattle.exact.proofs.Laws.{≤_trans, ≈→≥, <→≤, nat-≥0, nat-≤, nat-<, +-*, *_assoc, *-−, *-≥0, *_mono, *_mono_left, *_mono₂, difference_of_squares, ÷-*, ÷-≤, ÷-≥0, ÷_mono, min_left, min_right, min_either}
+use Rattle.exact.proofs.Linear.{linear, at, ◌⊕◌, ◌⊖◌, ◌⊛◌, ◌≼◌, ◌≋◌}
 use Rattle.leg.specs.Exact.{exact_weight, exact_parasitic, exact_induced, exact_drag_of}
 use Rattle.leg.specs.Nearness.{DragBounds}
 use Rattle.leg.proofs.Near.Drag.{exact_loading}
 
 pub more : {x x' : ℚ} → x ≤ℚ x' → nat 0 ≤ℚ x' -ℚ x
-more {x} {x'} h = linear (x ∷ x' ∷ []) (at 0 ≼ at 1 ∷ []) (con 0 ≼ at 1 ⊖ at 0) (λ d u w p h. omega arith) (h, tt)
+more h = omega arith
 
 -- m times over b, where that is at most t
 module _ (m b t : ℕ) (p : 0 < b) (q : m ≤ t * b) (x x' : ℚ) (h : x ≤ℚ x') where
   pub scaled_rises : x *ℚ nat m ÷ℚ nat b ≤ℚ x' *ℚ nat m ÷ℚ nat b
-  scaled_rises = ÷_mono {x = x *ℚ nat m} {x' = x' *ℚ nat m} {y = nat b} (nat-< p) (*_mono (nat m) (nat-≥0 m) h)
+  scaled_rises = search (arith, ÷_mono, nat-<, *_mono, nat-≥0)
 
   steeper : x' *ℚ nat m ≤ℚ (x *ℚ nat m ÷ℚ nat b +ℚ nat t *ℚ (x' -ℚ x)) *ℚ nat b
   steeper =
@@ -43,13 +43,12 @@ unfolding exact_weight
 exact_weight_is x = omega arith
 
 pub exact_weight_low : (x : ℚ) → nat 0 ≤ℚ x → nat 0 ≤ℚ exact_weight x
-exact_weight_low x h =
-    linear (x ∷ exact_weight x ∷ []) (con 0 ≼ at 0 ∷ (10 ^ 9) ⊛ at 1 ≋ 980665 ⊛ at 0 ∷ []) (con 0 ≼ at 1) (λ d u w p h. omega arith) (h, (exact_weight_is x, tt))
+unfolding exact_weight
+exact_weight_low x h = omega arith
 
 pub exact_weight_rises : (x x' : ℚ) → x ≤ℚ x' → exact_weight x ≤ℚ exact_weight x'
-exact_weight_rises x x' h =
-    linear (x ∷ x' ∷ exact_weight x ∷ exact_weight x' ∷ []) (at 0 ≼ at 1 ∷ (10 ^ 9) ⊛ at 2 ≋ 980665 ⊛ at 0 ∷ (10 ^ 9) ⊛ at 3 ≋ 980665 ⊛ at 1 ∷ []) (at 2 ≼ at 3) (λ d u w p h. omega arith)
-    (h, (exact_weight_is x, (exact_weight_is x', tt)))
+unfolding exact_weight
+exact_weight_rises x x' h = omega arith
 
 -- at most 10 mN a gram
 pub exact_weight_gains : (x x' : ℚ) → x ≤ℚ x' → nat 1000 *ℚ (exact_weight x' -ℚ exact_weight x) ≤ℚ x' -ℚ x
@@ -57,24 +56,28 @@ exact_weight_gains x x' h =
     linear (x ∷ x' ∷ exact_weight x ∷ exact_weight x' ∷ []) (at 0 ≼ at 1 ∷ (10 ^ 9) ⊛ at 2 ≋ 980665 ⊛ at 0 ∷ (10 ^ 9) ⊛ at 3 ≋ 980665 ⊛ at 1 ∷ []) (1000 ⊛ (at 3 ⊖ at 2) ≼ at 1 ⊖ at 0) (λ d u w p h. omega arith)
     (h, (exact_weight_is x, (exact_weight_is x', tt)))
 
+sum_low : (x y : ℚ) → nat 0 ≤ℚ x → nat 0 ≤ℚ y → nat 0 ≤ℚ x +ℚ y
+sum_low x y p q = grind arith
+
 -- a share with its factor in front
 share_low : (c b : ℕ) (z : ℚ) → 0 < b → nat 0 ≤ℚ z → nat 0 ≤ℚ nat c *ℚ z ÷ℚ nat b
-share_low c b z p h = ÷-≥0 {x = nat c *ℚ z} {y = nat b} (nat-< p) (*-≥0 (nat-≥0 c) h)
+share_low c b z p h = grind arith
 
 share_is : (c b : ℕ) (z : ℚ) → nat c *ℚ z ÷ℚ nat b ≈ z *ℚ nat c ÷ℚ nat b
-share_is c b z = ÷-≈ {x = nat c *ℚ z} {y = nat b} (*_comm (nat c) z) (≈_refl (nat b))
+share_is c b z = grind arith
 
 -- the drag at a weight w, and at a greater weight w', with a force that both together do not pass
 module _ (y : ℚ) (force : nat 0 <ℚ y) where
   pub exact_drag_low : (pair : ℕ × ℕ) (w : ℚ) → nat 0 ≤ℚ w → nat 0 ≤ℚ exact_drag_of pair w y
   unfolding exact_drag_of exact_parasitic exact_induced
   exact_drag_low pair w low =
-      linear (exact_parasitic pair.0 y ∷ exact_induced pair.1 w y ∷ []) (con 0 ≼ at 0 ∷ con 0 ≼ at 1 ∷ []) (con 0 ≼ at 0 ⊕ at 1) (λ d u w p h. omega arith)
-      (share_low pair.0 (10 ^ 8) y (omega arith) (<→≤ force), (share_low pair.1 (10 ^ 7) (exact_loading w y) (omega arith) (÷-≥0 force (*-≥0 (nat-≥0 10) (*-≥0 low low))), tt))
+      sum_low _ _
+      (share_low pair.0 (10 ^ 8) y (omega arith) (<→≤ force))
+      (share_low pair.1 (10 ^ 7) (exact_loading w y) (omega arith) (÷-≥0 force (*-≥0 (nat-≥0 10) (*-≥0 low low))))
 
   module _ (w w' : ℚ) (low : nat 0 ≤ℚ w) (h : w ≤ℚ w') where
     loading_rises : exact_loading w y ≤ℚ exact_loading w' y
-    loading_rises = ÷_mono force (*_mono_left (nat 10) (nat-≥0 10) (*_mono₂ low (≤_trans low h) h h))
+    loading_rises = search (arith, ÷_mono, *_mono_left, nat-≥0, *_mono₂, ≤_trans)
 
     loading_gains : w' +ℚ w ≤ℚ y → exact_loading w' y ≤ℚ exact_loading w y +ℚ nat 10 *ℚ (w' -ℚ w)
     loading_gains light =

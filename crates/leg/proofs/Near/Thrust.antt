@@ -1,8 +1,8 @@
 -- The temperature factor, the available thrust and the thrust used are near their exact values, and stay within 0 and 10¹⁰ mN.
-use Rattle.std.proofs.Common.{ℕ, ◌+◌, ◌-◌, ◌*◌, ◌/◌, ◌^◌, ◌<◌, ◌≤◌, [], ◌∷◌, ℤ, pos, negsuc, arith}
+use Rattle.std.proofs.Common.{ℕ, ◌+◌, ◌-◌, ◌*◌, ◌/◌, ◌^◌, ◌<◌, ◌≤◌, [], ◌∷◌, ℤ, pos, arith, rules}
 use Rattle.exact.specs.Rational.{ℚ, nat, int, ◌-ℚ◌, ◌*ℚ◌, ◌÷ℚ◌, minℚ, maxℚ, ◌≤ℚ◌, ◌≈◌, Near}
-use Rattle.exact.proofs.Laws.{≤_trans, ≈_refl, nat-≥0, nat-≤, nat-<, nat-−, nat-*, nat_min, left_max, max-≤, min_left, min_right, ≤_min, *-≥0, *_mono₂, ÷-≤, ÷-≥0, near-≈, near_same, near_weaken, near-−, near_product, near_min, near_held, near_int_floor}
-use Rattle.exact.proofs.Linear.{linear, at, con, ◌⊕◌, ◌⊖◌, ◌⊛◌, ◌≼◌, ◌≋◌}
+use Rattle.exact.proofs.Laws.{≤_trans, ≈_refl, nat-≥0, nat-≤, nat-<, nat-−, nat-*, nat_min, left_max, max-≤, min_left, min_right, ≤_min, *-≥0, *_mono₂, ÷-≤, near-≈, near_same, near_weaken, near-−, near_product, near_min, near_held, near_int_floor}
+use Rattle.exact.proofs.Linear.{linear, at, con, ◌⊕◌, ◌⊛◌, ◌≼◌, ◌≋◌}
 use Rattle.engine.specs.Bounds.{product, quotient, share}
 use Rattle.engine.specs.Rounding.{near_over, times_near}
 use Rattle.std.specs.Int.{int_div_euclid}
@@ -12,12 +12,10 @@ use Rattle.leg.specs.Rules.{greatest_loss, warming, held_loss, temperature_facto
 use Rattle.leg.specs.Exact.{exact_temperature, exact_available_thrust, exact_cruise_cap, exact_thrust_used}
 
 held_is : (z : ℤ) → nat (held_loss z) ≈ maxℚ (nat 0) (minℚ (nat greatest_loss) (int z))
-held_is (pos n) = omega arith
-held_is (negsuc n) = omega arith
+held_is z = search rules
 
 pub held_high : (z : ℤ) → held_loss z ≤ greatest_loss
-held_high (pos n) = omega arith
-held_high (negsuc n) = omega arith
+held_high z = search rules
 
 pub temperature_near : (t : Temperature) (deviation : ℤ) → Near (nat (temperature_factor t deviation)) (exact_temperature t deviation) (nat 1)
 unfolding exact_temperature
@@ -58,15 +56,15 @@ module _ (e : ℕ) (y : ℚ) (loss : Near (nat e) y (nat 1)) (small : e ≤ grea
         record {
           near = near_over (10 ^ 9) 21 (omega arith) (omega arith) product_near;
           high = omega (arith, share n (10 ^ 9 - e) (10 ^ 9) (omega arith), standard.high);
-          exact_low = ÷-≥0 {x = x *ℚ (nat (10 ^ 9) -ℚ y)} {y = nat (10 ^ 9)} (nat-< {b = 10 ^ 9} (omega arith)) (*-≥0 standard.exact_low left_low);
+          exact_low = grind (arith, *-≥0 standard.exact_low left_low);
           exact_high = ÷-≤ {x = x *ℚ (nat (10 ^ 9) -ℚ y)} {y = nat (10 ^ 9)} (nat-< {b = 10 ^ 9} (omega arith)) (*_mono₂ standard.exact_low (nat-≥0 (10 ^ 9)) standard.exact_high left_high);
         }
       where
         left_low : nat 0 ≤ℚ nat (10 ^ 9) -ℚ y
-        left_low = linear (y ∷ []) (at 0 ≼ con (4 * 10 ^ 8) ∷ []) (con 0 ≼ con (10 ^ 9) ⊖ at 0) (λ d u w p h. omega arith) (high, tt)
+        left_low = omega arith
 
         left_high : nat (10 ^ 9) -ℚ y ≤ℚ nat (10 ^ 9)
-        left_high = linear (y ∷ []) (con 0 ≼ at 0 ∷ []) (con (10 ^ 9) ⊖ at 0 ≼ con (10 ^ 9)) (λ d u w p h. omega arith) (low, tt)
+        left_high = omega arith
 
 module _ (n : ℕ) (x : ℚ) (available : ThrustNear n x 21) where
   -- m parts of b
@@ -75,7 +73,7 @@ module _ (n : ℕ) (x : ℚ) (available : ThrustNear n x 21) where
       record {
         near = times_near m b t p r available.near;
         high = quotient (m * n) b (10 ^ 10) (product b (10 ^ 10) q available.high);
-        exact_low = ÷-≥0 {x = nat m *ℚ x} {y = nat b} (nat-< p) (*-≥0 (nat-≥0 m) available.exact_low);
+        exact_low = grind (arith, available.exact_low);
         exact_high = ÷-≤ {x = nat m *ℚ x} {y = nat b} (nat-< p) (≤_trans (*_mono₂ (nat-≥0 m) (nat-≥0 (10 ^ 10)) (nat-≤ q) available.exact_high) (omega arith));
       }
 

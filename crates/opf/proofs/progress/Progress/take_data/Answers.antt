@@ -5,9 +5,6 @@ use Rattle.opf.specs.Fields.{fields, runs}
 use Rattle.opf.proofs.Drafts.{refused_line, taken_line}
 use Rattle.opf.proofs.progress.Progress.take_data.Goals as goal
 
-pub take_line-requires : goal.take_line-requires
-take_line-requires c = omega arith
-
 pub returns-in_err-take_line : goal.returns-in_err-take_line
 returns-in_err-take_line c =
     λ d h.
