@@ -100,7 +100,7 @@ impl TryFrom<&[u8]> for Configuration {
 }
 
 impl Configuration {
-    // Its place among the five rows, from 0.
+    // Its place among the five rows, from 0. A method, since a From has no clause for the bound by which rows are indexed.
     pub fn row(self) -> usize
         ensures place { result ≡ configuration_row self }
         ensures within { result < 5 }

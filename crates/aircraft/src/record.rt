@@ -78,6 +78,7 @@ pub struct Fuel {
     ghost cf4_most: { cf4 ≤ 99999000 },
 }
 
+// Two records for two engines: they share names of coefficients, but hardly a unit or a range.
 // A jet: CTc1 in mN, CTc2 in ft, CTc3 in 10⁻¹⁶ ft⁻².
 #[derive(Clone, Copy, Debug)]
 pub struct JetCoefficients {

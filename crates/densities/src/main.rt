@@ -45,7 +45,7 @@ fn computed(feet: u32) -> u64 {
     saturating_f64_to_u64(100000.0 * density(feet as f64 * FOOT) + 0.5)
 }
 
-// The density that the standard day answers; 0 where it refuses.
+// The density that the standard day answers; 0 where it refuses, which is at no level of the table.
 fn answered(feet: u32) -> u64
     ensures { feet ≤ 60000 → result ≡ unsigned_abs (standard_density feet) }
 {

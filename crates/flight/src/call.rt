@@ -1,7 +1,7 @@
 // A later call of a flight, with what it names.
 use leg::figures::Figures;
 
-// A leg names a phase by its number; uplift and jettison name grams.
+// A leg names a phase by its number, since an unknown one is refused; uplift and jettison name grams.
 #[derive(Clone, Copy, PartialEq, Eq, Debug)]
 pub enum Call {
     Leg { phase: u64, figures: Figures },

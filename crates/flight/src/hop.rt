@@ -22,7 +22,7 @@ pub struct Hop {
     pub reading: Reading,
 }
 
-// An uplift, a climb and a touchdown. Masses in grams.
+// An uplift, a climb and a touchdown. Masses in grams. Aircraft, kind and day come one by one, as `start` takes them.
 pub fn fly_hop<K: Kind + Copy, D: Day + Copy>(
     aircraft: Aircraft,
     kind: K,

@@ -6,7 +6,7 @@ use crate::status::State;
 use leg::phase::Phase;
 use refusal::refusal::Refusal;
 
-// What a call asks of the state.
+// What a call asks of the state. Here a leg has its phase, which a call only names.
 #[derive(Clone, Copy, PartialEq, Eq, Debug)]
 pub(crate) enum Transition {
     Leg(Phase),

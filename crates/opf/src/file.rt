@@ -14,7 +14,7 @@ use aircraft::draft::Draft;
 use refusal::fault::Fault;
 
 impl Progress {
-    // Judges line `number` and reads it; answers whether it is the end.
+    // Judges line `number` and reads it; answers whether it is the end, a plain yes or no.
     fn take(&mut self, number: u32, line: &[u8]) -> Result<bool, Fault>
         ensures { (d : List Fields) → HasRead self.old d → ReadsLine result (line_fault number d line.now) (is_end line.now) self.new (d ++ own_fields line.now) }
     {
@@ -45,6 +45,7 @@ pub(crate) fn read_lines(text: &[u8]) -> Result<Draft, Fault>
         place: 1,
     };
     let mut lines = (1..).zip(Lines(text));
+    // Not a `for`: it would take the lines, of which those after the end line are still to be judged.
     while let Some((number, line)) = lines.next() {
         if progress.take(number, line)? {
             if lines.all(|(_, line)| is_blank(line)) {

@@ -8,7 +8,7 @@ use std::io;
 use std::io::{BufRead, BufReader, Read};
 use text::bytes::without_cr;
 
-// The longest form has 58 bytes, and a CR and an LF may follow it.
+// The longest form has 58 bytes, and a CR and an LF may follow it. No more is kept, so that memory stays the same for any script.
 const MOST_KEPT: usize = 60;
 
 // Answers are written out at this many bytes at the latest.
