@@ -1,7 +1,7 @@
 // The plain record that is filled while a file is read: the same values in the same units, not yet judged together.
 use crate::words::EngineType;
 
-#[derive(Clone, Copy, Debug)]
+#[derive(Clone, Copy, Default, Debug)]
 pub struct DraftMasses {
     pub reference: u64,
     pub minimum: u64,
@@ -16,7 +16,7 @@ pub struct DraftRow {
     pub cd2: u64,
 }
 
-#[derive(Clone, Copy, Debug)]
+#[derive(Clone, Copy, Default, Debug)]
 pub struct DraftThrust {
     pub ctc1: u64,
     pub ctc2: u64,
@@ -25,7 +25,7 @@ pub struct DraftThrust {
     pub ctc5: u64,
 }
 
-#[derive(Clone, Copy, Debug)]
+#[derive(Clone, Copy, Default, Debug)]
 pub struct DraftDescent {
     pub low: u64,
     pub high: u64,
@@ -34,19 +34,19 @@ pub struct DraftDescent {
     pub landing: u64,
 }
 
-#[derive(Clone, Copy, Debug)]
+#[derive(Clone, Copy, Default, Debug)]
 pub struct DraftConsumption {
     pub cf1: u64,
     pub cf2: u64,
 }
 
-#[derive(Clone, Copy, Debug)]
+#[derive(Clone, Copy, Default, Debug)]
 pub struct DraftIdle {
     pub cf3: u64,
     pub cf4: u64,
 }
 
-#[derive(Clone, Copy, Debug)]
+#[derive(Clone, Copy, Default, Debug)]
 pub struct Draft {
     pub engine: EngineType,
     pub masses: DraftMasses,

@@ -1,8 +1,9 @@
 // The engine types and the flap configurations.
 
 // The engine of an aircraft, as its file names it.
-#[derive(Clone, Copy, PartialEq, Eq, Debug)]
+#[derive(Clone, Copy, PartialEq, Eq, Default, Debug)]
 pub enum EngineType {
+    #[default]
     Jet,
     Turboprop,
 }
