@@ -3,7 +3,7 @@ use Rattle.std.proofs.Common.{refl}
 use Rattle.aircraft.specs.declared.record.Aircraft.{Aircraft}
 use Rattle.air.specs.declared.bench.Bench.{Bench}
 use Rattle.opf.specs.Numbers.{number_of, fixed_point, natural_in, signed_in}
-use Rattle.opf.specs.DataLines.{natural_fault, signed_fault}
+use Rattle.opf.specs.DataLines.{counted_fault}
 use Rattle.sample_jet.specs.SampleJet.{SampleJet}
 use Rattle.samples.specs.SampleSheet.{SampleBench, sample_setting, SampleSheet}
 use Rattle.samples.specs.Worked.{JetFigures, WorkedFigures}
@@ -37,7 +37,7 @@ sample_sheet a b s d =
     }
 
 pub worked : WorkedFigures
-unfolding number_of fixed_point natural_in signed_in natural_fault signed_fault
+unfolding number_of fixed_point natural_in signed_in counted_fault
 worked =
     record {
       whole = refl;
