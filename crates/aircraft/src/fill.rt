@@ -7,7 +7,7 @@ use crate::draft::{Draft, DraftRow};
 use crate::words::Configuration;
 
 impl Draft {
-    // Nothing read yet.
+    // Nothing read yet: the derived default, under a name and with a clause that say what it is.
     pub fn empty() -> Draft
         ensures { result ≡ empty_draft }
     {

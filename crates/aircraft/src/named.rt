@@ -14,7 +14,7 @@ trait Worded: Copy {
         ensures { result.now ≡ own_word self };
 }
 
-// The first of some kinds that a word names.
+// The first of some kinds that a word names. A `for`: a `find` over words that a bound gives was tried, and did not prove.
 fn named<K: Worded>(kinds: &[K], word: &[u8]) -> Result<K, UnknownWord>
     ensures { result ≡ known (first_named K.own_word kinds.now word.now) }
 {
@@ -66,6 +66,14 @@ impl From<&Engine> for EngineType {
     }
 }
 
+const CONFIGURATIONS: [Configuration; 5] = [
+    Configuration::Cruise,
+    Configuration::InitialClimb,
+    Configuration::TakeOff,
+    Configuration::Approach,
+    Configuration::Landing,
+];
+
 impl Worded for Configuration {
     ghost own_word = { configuration_word };
 
@@ -86,16 +94,7 @@ impl TryFrom<&[u8]> for Configuration {
     ghost try_from_gives = { λ word r. r ≡ known (configuration_named word.now) };
 
     fn try_from(word: &[u8]) -> Result<Configuration, UnknownWord> {
-        named(
-            &[
-                Configuration::Cruise,
-                Configuration::InitialClimb,
-                Configuration::TakeOff,
-                Configuration::Approach,
-                Configuration::Landing,
-            ],
-            word,
-        )
+        named(&CONFIGURATIONS, word)
     }
 }
 

@@ -12,6 +12,7 @@ pub(crate) fn up_to_slash(rest: &[u8]) -> &[u8]
     cut(rest, b'/').map_or(rest, |(fields, _)| fields)
 }
 
+// The chain stands here and in `field_at`: a function cannot answer an iterator by its trait alone.
 pub(crate) fn field_count(s: &[u8]) -> usize
     ensures count { result ≡ length (runs s.now) }
     ensures inside { result ≤ length s.now }

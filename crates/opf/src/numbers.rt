@@ -23,24 +23,22 @@ impl Number {
     fn unsigned(t: &[u8], negative: bool) -> Option<Number>
         ensures { result ≡ unsigned_number negative t.now }
     {
+        // The form has fixed places, so they are named.
         if t.len() != 10 || t[0] != b'.' || t[6] != b'E' {
             return None;
         }
         let value = digits(&t[1..6])? as u32;
         let power = digits(&t[8..])? as i8;
-        match t[7] {
-            b'+' => Some(Number {
-                negative,
-                digits: value,
-                exponent: power,
-            }),
-            b'-' => Some(Number {
-                negative,
-                digits: value,
-                exponent: -power,
-            }),
-            _ => None,
-        }
+        let exponent = match t[7] {
+            b'+' => power,
+            b'-' => -power,
+            _ => return None,
+        };
+        Some(Number {
+            negative,
+            digits: value,
+            exponent,
+        })
     }
 
     // How many units of ten to the -`decimals` it is, but for its sign, where that is whole.

@@ -36,7 +36,7 @@ pub(crate) fn take_line(draft: &mut Draft, place: u32, line: &DataLine) -> Resul
         2 => draft.masses = reading::masses(line)?,
         3 => draft.ceiling = reading::one(line, 3, quantities::CEILING)?,
         4 => draft.wing = reading::one(line, 2, quantities::WING_AREA)?,
-        5 | 6 | 7 | 8 | 9 => return take_row(draft, line),
+        5..=9 => return take_row(draft, line),
         13 => draft.gear = reading::one(line, 3, quantities::DRAG)?,
         16 => draft.thrust = reading::thrust(line, draft.engine)?,
         17 => draft.descent = reading::descent(line)?,

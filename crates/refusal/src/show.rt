@@ -102,24 +102,7 @@ impl From<Refusal> for u8 {
     ghost from_gives = { λ r n. n ≡ refusal_number r };
 
     fn from(refusal: Refusal) -> u8 {
-        match refusal {
-            Refusal::BenchPair => 11,
-            Refusal::TooHigh => 12,
-            Refusal::Grams => 13,
-            Refusal::ZeroFuel => 14,
-            Refusal::Phase => 15,
-            Refusal::State => 16,
-            Refusal::Altitude => 17,
-            Refusal::Speed => 18,
-            Refusal::Calibrated => 19,
-            Refusal::Seconds => 20,
-            Refusal::FlownSeconds => 21,
-            Refusal::Lift => 22,
-            Refusal::Flow => 23,
-            Refusal::Overweight => 24,
-            Refusal::FuelShort => 25,
-            Refusal::Script => 26,
-        }
+        refusal as u8
     }
 }
 

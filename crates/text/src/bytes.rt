@@ -13,6 +13,7 @@ pub fn is_printable(s: &[u8]) -> bool
 pub fn cut(s: &[u8], b: u8) -> Option<(&[u8], &[u8])>
     ensures { parts_seen result ≡ cut_at b s.now }
 {
+    // Both parts by the place of the byte: std cuts text in two at a byte, and not bytes.
     let n = s.iter().position(|x| *x == b)?;
     Some((&s[..n], &s[n + 1..]))
 }

@@ -10,7 +10,7 @@ pub fn digits(s: &[u8]) -> Option<u64>
     if s.len() > 19 {
         return None;
     }
-    // A loop: the closure of a `try_fold` would have to know how large the number so far is.
+    // A loop: a `try_fold` was tried, and its closure would have to know how large the number so far is.
     let mut n = 0;
     for b in s {
         if !b.is_ascii_digit() {
