@@ -1,6 +1,7 @@
 // A data line in its place.
-ghost use Rattle.std.specs.Prelude.{◌≡◌, ◌≤◌, false, List, [], ◌∷◌, ◌++◌, length};
+ghost use Rattle.std.specs.Prelude.{◌≡◌, ◌≤◌, List, [], ◌∷◌, ◌++◌, length};
 ghost use Rattle.opf.specs.Fields.{fields};
+ghost use Rattle.opf.specs.Lines.{done};
 ghost use Rattle.opf.specs.DataLines.{Fields, data_fault};
 ghost use Rattle.opf.specs.Progress.{HasRead, ReadsLine};
 
@@ -12,9 +13,9 @@ use refusal::fault::Fault;
 
 impl Progress {
     // Reads the data line that comes next; there are at most 22.
-    pub(crate) fn take_data(&mut self, number: u32, rest: &[u8]) -> Result<bool, Fault>
+    pub(crate) fn take_data(&mut self, number: u32, rest: &[u8]) -> Result<(), Fault>
         requires { length rest.now ≤ 160 }
-        ensures { (d : List Fields) → HasRead self.old d → ReadsLine result (data_fault number d (fields rest.now)) false self.new (d ++ (fields rest.now ∷ [])) }
+        ensures { (d : List Fields) → HasRead self.old d → ReadsLine result (data_fault number d (fields rest.now)) done self.new (d ++ (fields rest.now ∷ [])) }
     {
         if self.place > 22 {
             return Err(Fault::DataLines { line: number });
@@ -25,6 +26,6 @@ impl Progress {
         };
         take_line(&mut self.draft, self.place, &line)?;
         self.place += 1;
-        Ok(false)
+        Ok(())
     }
 }

@@ -21,7 +21,7 @@ impl Progress {
         check_text(line, number)?;
         match line_token(line).ok_or(Fault::LineStart { line: number })? {
             Token::Comment(_) => Ok(false),
-            Token::Data(rest) => self.take_data(number, rest),
+            Token::Data(rest) => self.take_data(number, rest).map(|()| false),
             Token::End(_) if self.place <= 22 => Err(Fault::DataLines { line: number }),
             Token::End(_) => Ok(true),
         }
