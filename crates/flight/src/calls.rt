@@ -19,6 +19,7 @@ use refusal::refusal::Refusal;
 
 impl<K: Kind + Drop, D: Day + Drop> Flight<K, D> {
     // A flight on stand. Kind and day come by copy, so that a refused start takes nothing from its caller.
+    // They come beside the aircraft, one by one: a struct of the three would ask callers to have them in one.
     pub fn start(aircraft: Aircraft, kind: K, day: D, start: Start) -> Result<Flight<K, D>, Refusal>
     where
         K: Copy,

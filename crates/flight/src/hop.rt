@@ -14,7 +14,7 @@ use leg::flown::Flown;
 use refusal::refusal::Refusal;
 
 // How each call of a hop was answered, and what is read after it.
-#[derive(Clone, Copy, PartialEq, Debug)]
+#[derive(Clone, Copy, PartialEq, Eq, Debug)]
 pub struct Hop {
     pub uplifted: Result<(), Refusal>,
     pub flown: Result<Flown, Refusal>,

@@ -19,12 +19,10 @@ fn is_slow(request: &Request, row: &Row) -> bool
 fn climbing(altitude: u64) -> Configuration
     ensures { result ≡ climb_configuration altitude }
 {
-    if altitude <= 400 {
-        Configuration::TakeOff
-    } else if altitude <= 2000 {
-        Configuration::InitialClimb
-    } else {
-        Configuration::Cruise
+    match altitude {
+        0..=400 => Configuration::TakeOff,
+        401..=2000 => Configuration::InitialClimb,
+        _ => Configuration::Cruise,
     }
 }
 

@@ -2,7 +2,7 @@
 use aircraft::words::Configuration;
 
 // Thrust used and drag in mN, flow in mg/min, burn in mg; limited where the thrust could not meet the drag.
-#[derive(Clone, Copy, PartialEq, Debug)]
+#[derive(Clone, Copy, PartialEq, Eq, Debug)]
 pub struct Flown {
     pub configuration: Configuration,
     pub thrust: u64,

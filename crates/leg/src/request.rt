@@ -1,4 +1,4 @@
-// The figures of a leg, each within its range.
+// The figures of a leg that were judged: the same four as a caller names, each within its range, which is a fact of the type.
 ghost use Rattle.std.specs.Prelude.{◌≤◌};
 
 // Altitude in ft, true airspeed in 0.1 kt, calibrated airspeed in kt, and seconds.

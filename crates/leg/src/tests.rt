@@ -138,14 +138,14 @@ fn largest_leg(
     setting.fly(phase, &request, mass)
 }
 
-// The number by which a leg of the sample aircraft is refused, or 0, as the worked figures have it.
+// The number by which a leg of the sample aircraft is refused.
 fn refusal_of(
     kind: &Jet,
     phase: Phase,
     altitude: u64,
     speed: u64,
     milligrams: u64,
-) -> Result<u8, Refusal> {
+) -> Result<Option<u8>, Refusal> {
     let day = Bench::new(45000, 0)?;
     let request = Request::new(&sample_jet::aircraft(), asked(altitude, speed, 191, 60))?;
     if milligrams < 200000000 || milligrams > 900000000000 {
@@ -157,16 +157,16 @@ fn refusal_of(
         day: &day,
     };
     let flown = setting.fly(phase, &request, Mass { milligrams });
-    Ok(flown.map_or_else(u8::from, |_| 0))
+    Ok(flown.err().map(u8::from))
 }
 
-// The number by which the figures of a leg are refused, or 0, as the worked figures have it.
-fn figures(altitude: u64, speed: u64, calibrated: u64, seconds: u64) -> u8 {
+// The number by which the figures of a leg are refused.
+fn figures(altitude: u64, speed: u64, calibrated: u64, seconds: u64) -> Option<u8> {
     let request = Request::new(
         &sample_jet::aircraft(),
         asked(altitude, speed, calibrated, seconds),
     );
-    request.map_or_else(u8::from, |_| 0)
+    request.err().map(u8::from)
 }
 
 #[test]
@@ -180,15 +180,15 @@ fn phases(rt: HostRuntime) {
 
 #[test]
 fn ends_of_the_figures(rt: HostRuntime) {
-    assert_eq!(rt; figures(0, 300, 20, 1), 0);
-    assert_eq!(rt; figures(40000, 7000, 500, 60), 0);
-    assert_eq!(rt; figures(40001, 299, 19, 0), 17);
-    assert_eq!(rt; figures(40000, 299, 19, 0), 18);
-    assert_eq!(rt; figures(40000, 7001, 501, 61), 18);
-    assert_eq!(rt; figures(40000, 300, 19, 0), 19);
-    assert_eq!(rt; figures(40000, 300, 501, 61), 19);
-    assert_eq!(rt; figures(40000, 300, 20, 0), 20);
-    assert_eq!(rt; figures(40000, 300, 20, 61), 20);
+    assert_eq!(rt; figures(0, 300, 20, 1), None);
+    assert_eq!(rt; figures(40000, 7000, 500, 60), None);
+    assert_eq!(rt; figures(40001, 299, 19, 0), Some(17));
+    assert_eq!(rt; figures(40000, 299, 19, 0), Some(18));
+    assert_eq!(rt; figures(40000, 7001, 501, 61), Some(18));
+    assert_eq!(rt; figures(40000, 300, 19, 0), Some(19));
+    assert_eq!(rt; figures(40000, 300, 501, 61), Some(19));
+    assert_eq!(rt; figures(40000, 300, 20, 0), Some(20));
+    assert_eq!(rt; figures(40000, 300, 20, 61), Some(20));
 }
 
 #[test]
@@ -329,17 +329,17 @@ fn refused_legs(rt: HostRuntime) {
     };
     assert_eq!(rt;
         refusal_of(&jet, Phase::Climb, 30000, 1800, 59020798000),
-        Ok(0)
+        Ok(None)
     );
     assert_eq!(rt;
         refusal_of(&jet, Phase::Climb, 30000, 1800, 59020800000),
-        Ok(22)
+        Ok(Some(22))
     );
     assert_eq!(rt;
         refusal_of(&jet, Phase::Climb, 0, 300, 900000000000),
-        Ok(22)
+        Ok(Some(22))
     );
-    assert_eq!(rt; refusal_of(&jet, Phase::Climb, 0, 300, 200000000), Ok(0));
+    assert_eq!(rt; refusal_of(&jet, Phase::Climb, 0, 300, 200000000), Ok(None));
     let fuel = Fuel {
         cf1: 1000000000,
         cf2: 100000,
@@ -356,22 +356,22 @@ fn refused_legs(rt: HostRuntime) {
     };
     assert_eq!(rt;
         refusal_of(&thirsty, Phase::Climb, 30000, 300, 60000000000),
-        Ok(22)
+        Ok(Some(22))
     );
     assert_eq!(rt;
         refusal_of(&thirsty, Phase::Climb, 30000, 4500, 60000000000),
-        Ok(23)
+        Ok(Some(23))
     );
     assert_eq!(rt;
         refusal_of(&thirsty, Phase::Cruise, 30000, 4500, 60000000000),
-        Ok(23)
+        Ok(Some(23))
     );
     assert_eq!(rt;
         refusal_of(&thirsty, Phase::Descent, 7999, 4500, 60000000000),
-        Ok(23)
+        Ok(Some(23))
     );
     assert_eq!(rt;
         refusal_of(&thirsty, Phase::Descent, 8000, 4500, 60000000000),
-        Ok(0)
+        Ok(None)
     );
 }

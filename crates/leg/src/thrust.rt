@@ -5,7 +5,7 @@ ghost use Rattle.leg.specs.Rules.{cruise_cap, thrust_used, limited};
 use crate::phase::Phase;
 use std::marker::Model;
 
-// In mN.
+// In mN. The engines have a type of the same range; this one has methods, which only its own crate can give it.
 #[derive(Clone, Copy)]
 pub(crate) struct Thrust {
     pub(crate) millinewtons: u64,
