@@ -33,7 +33,7 @@ impl Day for Bench {
     }
 }
 
-// Any day, chosen while a program runs.
+// Any day, chosen while a program runs; it hands a question on by a match, as an enum does.
 #[derive(Clone, Copy, Debug)]
 pub enum AnyDay {
     Bench(Bench),

@@ -1,4 +1,5 @@
 // Every engine kind in one type, and the engine of an aircraft.
+// Each question is handed on by a match: a `dyn` in its place would have to be handed out.
 ghost use Rattle.std.specs.Prelude.{◌≡◌};
 ghost use Rattle.engine.specs.Engines.{any_engine, engine_of};
 ghost use Rattle.engine.specs.JetLaws.{jet_laws};

@@ -44,7 +44,7 @@ pub(crate) fn one(line: &DataLine, k: u32, q: Quantity<u64>) -> Result<u64, Faul
     line.count(k, q)
 }
 
-// A data line of which fields 1 and 2 are read.
+// A data line of which fields 1 and 2 are read. Two functions, since the number of one is at a field of its own.
 pub(crate) fn two(line: &DataLine, q: Quantity<u64>, r: Quantity<u64>) -> Result<(u64, u64), Fault>
     ensures { Judges result (first_of (two_faults line.now.number (line_fields line.now) q r)) (natural (line_fields line.now) 1 q, natural (line_fields line.now) 2 r) }
 {
