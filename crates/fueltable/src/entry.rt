@@ -94,7 +94,7 @@ impl fmt::Display for Entry {
         let (Some(printed), Some(apart)) = (printed, self.difference()) else {
             return Ok(());
         };
-        let sign = if flow.0 < Thousandths::from(printed).0 {
+        let sign = if flow < Thousandths::from(printed) {
             "-"
         } else {
             "+"

@@ -7,11 +7,11 @@ use std::num::ParseIntError;
 use std::str::FromStr;
 
 // A speed in 0.1 kt, or a printed flow in 0.1 kg/min.
-#[derive(Clone, Copy)]
+#[derive(Clone, Copy, PartialEq, Eq, PartialOrd, Ord)]
 pub(crate) struct Tenths(pub(crate) u32);
 
 // A flow in g/min, which is shown in kg/min.
-#[derive(Clone, Copy)]
+#[derive(Clone, Copy, PartialEq, Eq, PartialOrd, Ord)]
 pub(crate) struct Thousandths(pub(crate) u64);
 
 impl From<Tenths> for Thousandths {

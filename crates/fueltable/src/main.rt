@@ -49,7 +49,7 @@ fn print_row(
 // The table for the rows of standard input, but its comments.
 fn print_table(rt: &HostRuntime, aircraft: &Aircraft) -> io::Result<()> {
     print_heading(rt, aircraft)?;
-    let mut tally = Tally::new();
+    let mut tally = Tally::default();
     for line in BufReader::new(rt.alloc(), rt.stdin())?.lines(rt.alloc()) {
         let line = line?;
         if !line.starts_with('#') {

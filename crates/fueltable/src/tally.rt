@@ -18,7 +18,7 @@ struct Worst {
 }
 
 // How many flows were compared, how many of them are near enough, and the worst of them.
-#[derive(Clone, Copy)]
+#[derive(Clone, Copy, Default)]
 pub(crate) struct Tally {
     compared: u64,
     near: u64,
@@ -26,26 +26,18 @@ pub(crate) struct Tally {
 }
 
 impl Tally {
-    pub(crate) fn new() -> Tally {
-        Tally {
-            compared: 0,
-            near: 0,
-            worst: None,
-        }
-    }
-
     // None that was counted is greater than the worst.
     pub(crate) fn add(&mut self, level: u16, column: Column, difference: Thousandths)
         ensures counted { difference.0 ≤ farthest self.new }
         ensures kept { farthest self.old ≤ farthest self.new }
     {
         self.compared = self.compared.saturating_add(1);
-        if difference.0 <= ALLOWED.0 {
+        if difference <= ALLOWED {
             self.near = self.near.saturating_add(1);
         }
         self.worst = self
             .worst
-            .filter(|worst| difference.0 < worst.difference.0)
+            .filter(|worst| difference < worst.difference)
             .or(Some(Worst {
                 difference,
                 level,
@@ -57,16 +49,16 @@ impl Tally {
 impl fmt::Display for Tally {
     fn fmt<W: fmt::Write>(&self, f: &mut fmt::Formatter<W>) -> fmt::Result {
         let Some(worst) = self.worst else {
-            return write!(f, "compared 0\n");
+            return writeln!(f, "compared 0");
         };
-        write!(
+        writeln!(
             f,
-            "compared {}, within {ALLOWED} of the printed flow {}\n",
+            "compared {}, within {ALLOWED} of the printed flow {}",
             self.compared, self.near
         )?;
-        write!(
+        writeln!(
             f,
-            "worst difference {}, at FL {} in {}\n",
+            "worst difference {}, at FL {} in {}",
             worst.difference, worst.level, worst.column
         )
     }

@@ -51,11 +51,11 @@ pub(crate) fn file(
     end: &[u8],
 ) -> Result<Vec<u8>, AllocError> {
     let mut text = Vec::new(heap);
-    for (i, own) in LINES.iter().enumerate() {
-        let line = match i + 1 {
+    for (i, own) in (1..).zip(LINES) {
+        let line = match i {
             n if n == a.at => a.line,
             n if n == b.at => b.line,
-            _ => *own,
+            _ => own,
         };
         text.extend_from_slice(line)?;
         text.extend_from_slice(end)?;
@@ -63,7 +63,7 @@ pub(crate) fn file(
     Ok(text)
 }
 
-// Number, line and field of a file's fault.
+// Number, line and field of a file's fault, as the fault is printed: 0 stands for none.
 pub(crate) fn fault(text: &[u8]) -> Option<(u8, u32, u32)> {
     let f = read(text).err()?;
     Some((u8::from(f), f.line().unwrap_or(0), f.field().unwrap_or(0)))

@@ -15,22 +15,28 @@ fn check(rt: &HostRuntime, name: &str) -> io::Result<()> {
     }
 }
 
+// Prints what the file of a name gives, or tells why it cannot be read.
+fn told(rt: &HostRuntime, name: &str) -> io::Result<io::Result<()>> {
+    if let Err(e) = check(rt, name) {
+        eprintln!(rt; "opfcheck: {name}: {e}")?;
+        return Ok(Err(io::Error::from(io::ErrorKind::NotFound)));
+    }
+    Ok(Ok(()))
+}
+
 fn main(rt: HostRuntime) -> io::Result<()> {
     let names = env::args(&rt)?.skip(1);
     let count = names.len();
-    let alone = if count == 0 {
-        Some(String::from_str(rt.alloc(), "aircraft.opf")?)
-    } else {
-        None
-    };
+    if count == 0 {
+        return told(&rt, "aircraft.opf")?;
+    }
     let mut all = Ok(());
-    for name in names.chain(alone) {
+    for name in names {
         if count > 1 {
             println!(rt; "file {name}")?;
         }
-        if let Err(e) = check(&rt, name.as_str()) {
-            eprintln!(rt; "opfcheck: {name}: {e}")?;
-            all = Err(io::Error::from(io::ErrorKind::NotFound));
+        if let Err(e) = told(&rt, name.as_str())? {
+            all = Err(e);
         }
     }
     all

@@ -8,6 +8,7 @@ use flight::call::Call;
 use flight::flight::Flight;
 use refusal::refusal::Refusal;
 
+// The flight is read after a refused call too, since what is read keeps to the book either way.
 // The arms are alike but for the call: a function of it would need a closure with a contract of its own for each.
 pub(crate) fn make<'a>(
     flight: &mut Flight<AnyKind, AnyDay>,

@@ -5,6 +5,7 @@ ghost use Rattle.sheet.specs.Texts.{fault_text};
 use refusal::fault::Fault;
 use std::fmt;
 
+// A type of its own: the claim about the whole line, byte for byte, stands on it.
 #[derive(Clone, Copy)]
 pub struct FaultLine {
     pub fault: Fault,

@@ -8,7 +8,7 @@ use leg::flown::Flown;
 use refusal::refusal::Refusal;
 use std::fmt;
 
-// Mass, fuel and the minimum-fuel mark.
+// Mass, fuel and the minimum-fuel mark. The type `Reading` is of another crate, and this text is the sheet's.
 #[derive(Clone, Copy)]
 struct Figures(Reading);
 
@@ -26,7 +26,7 @@ impl fmt::Display for Figures {
     }
 }
 
-// What a leg answers.
+// What a leg answers. The type `Flown` is of another crate, and this text is the sheet's.
 #[derive(Clone, Copy)]
 struct LegFigures(Flown);
 
