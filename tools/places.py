@@ -3,7 +3,7 @@
 
 python3 tools/places.py [ROOT] [--lines]    counts, and with --lines each place
 
-Point 2 asks the program `duplicates` too, over copies of the files ending in .rs, if it is installed.
+For twins it asks the program `duplicates` too, over copies of the files ending in .rs, if it is installed.
 Where a point counts names (facts, lists of parameters), the number of names stands beside that of the places.
 """
 import collections
