@@ -1,12 +1,13 @@
 -- How large the whole-number formulas get within the ranges of the coefficients.
-use Rattle.std.specs.Prelude.{ℕ, ◌*◌, ◌/◌, ◌^◌, ◌≤◌}
-use Rattle.std.proofs.Common.{mul-le-mul, arith}
+use Rattle.std.specs.Prelude.{ℕ, ◌-◌, ◌*◌, ◌/◌, ◌^◌, ◌≤◌}
+use Rattle.std.proofs.Common.{mul-le-mul, sub-le, arith}
 use Rattle.std.proofs.Math.Nat.{div-le_of_le-mul}
 use Rattle.std.proofs.lemmas.Nat.{rows}
+use Rattle.aircraft.specs.declared.record.Fuel.{Fuel}
 use Rattle.aircraft.specs.declared.record.JetCoefficients.{JetCoefficients}
 use Rattle.aircraft.specs.declared.record.TurbopropCoefficients.{TurbopropCoefficients}
 use Rattle.engine.specs.Jets.{jet_rise}
-use Rattle.engine.specs.Turboprops.{propeller_thrust}
+use Rattle.engine.specs.Turboprops.{propeller_thrust, propeller_consumption}
 
 pub product : {a b : ℕ} (m n : ℕ) → a ≤ m → b ≤ n → a * b ≤ m * n
 product m n p q = mul-le-mul p q
@@ -29,3 +30,6 @@ propeller_thrust_high c v p =
 -- what is left of it at an altitude
 pub propelled_high : (a k : ℕ) → a ≤ 3333300000 → k ≤ 10 ^ 9 → a * k / 10 ^ 9 ≤ 3333300000
 propelled_high a k p q = grind (arith, rows)
+
+pub propeller_consumption_high : (f : Fuel) (v : ℕ) → propeller_consumption f v ≤ 1000000000
+propeller_consumption_high f v = omega (arith, f.cf1_most, share f.cf1 (f.cf2 - 10 * v) f.cf2 (sub-le f.cf2 (10 * v)))

@@ -5,7 +5,6 @@ mod Forms
 mod Readings
 mod Drafts
 mod Files
-mod Numbered
 mod Accepted
 mod Judged
 mod Configurations

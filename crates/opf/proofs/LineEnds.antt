@@ -1,12 +1,13 @@
--- The first line of a text, by its first LF.
-use Rattle.std.proofs.Common.{◌≡◌, ℕ, zero, suc, ◌+◌, ◌<◌, ◌≤◌, true, false, ◌&&◌, eqb, List, [], ◌∷◌, length, take, drop, Some, None, Bor, MatchOption, not, sym, refl, ap, ◌∙◌, ⊎_elim, add-one, one-add, arith}
+-- The first line of a text, by its first LF, and texts of line ends alone.
+use Rattle.std.proofs.Common.{◌≡◌, ℕ, zero, suc, ◌+◌, ◌<◌, ◌≤◌, Bool, true, false, ◌&&◌, ◌||◌, eqb, List, [], ◌∷◌, length, take, drop, Some, None, Bor, MatchOption, not, sym, refl, ap, ◌∙◌, ⊎_elim, add-one, one-add, arith}
 use Rattle.std.specs.List.{prefix_len}
 use Rattle.std.specs.Bool.{then_some}
 use Rattle.std.proofs.lemmas.List.{nil_from_length}
-use Rattle.std.proofs.lemmas.Bool.{eqb-true, eqb-false, both_ways, and_right, and_cases, and_parts, cases_Bool}
-use Rattle.text.specs.Bytes.{other_than, without_cr, cut_at}
+use Rattle.std.proofs.lemmas.Bool.{eqb-true, eqb-false, both_ways, and_right, and_cases, and_parts, or_right, cases_Bool}
+use Rattle.text.specs.Bytes.{every, other_than, without_cr, cut_at}
 use Rattle.text.proofs.Cuts.{cut_cases}
 use Rattle.opf.specs.Text.{lines, onto, at_lf}
+use Rattle.opf.specs.Files.{blank}
 use Rattle.opf.proofs.Runs.{onto_length}
 
 -- what stands before the first LF, without a CR at its end
@@ -110,5 +111,39 @@ lines_few (b ∷ s) =
     ⊎_elim
     (λ (t : (eqb b 13 && at_lf s) ≡ true). rw (f, t) (omega (arith, lines_few s)))
     (λ (g : (eqb b 13 && at_lf s) ≡ false). rw (f, g) (omega (arith, onto_length b (lines s), lines_few s)))
+    (cases_Bool (eqb b 13 && at_lf s)))
+    (cases_Bool (eqb b 10))
+
+-- Nothing but line ends.
+
+-- LF or CR
+abbrev pub line_end : ℕ → Bool
+line_end b = eqb b 10 || eqb b 13
+
+blank_onto : (b : ℕ) (ls : List (List ℕ)) → blank (onto b ls) ≡ (eqb b 13 && blank ls)
+blank_onto b [] = ⊎_elim (λ t. rw t) (λ f. rw f) (cases_Bool (eqb b 13))
+blank_onto b (l ∷ ls) = ⊎_elim (λ t. rw t) (λ f. rw f) (cases_Bool (eqb b 13))
+
+lines_past : (b : ℕ) (s : List ℕ) → eqb b 10 ≡ false → (eqb b 13 && at_lf s) ≡ true → lines (b ∷ s) ≡ lines s
+lines_past b s f t = rw (t, f)
+
+lines_kept : (b : ℕ) (s : List ℕ) → eqb b 10 ≡ false → (eqb b 13 && at_lf s) ≡ false → lines (b ∷ s) ≡ onto b (lines s)
+lines_kept b s f g = rw (g, f)
+
+every_other : (b : ℕ) (s : List ℕ) → eqb b 10 ≡ false → every line_end (b ∷ s) ≡ (eqb b 13 && every line_end s)
+every_other b s f = rw f
+
+every_past : (b : ℕ) (s : List ℕ) → eqb b 13 ≡ true → every line_end (b ∷ s) ≡ every line_end s
+every_past b s t = let e : line_end b ≡ true = or_right (eqb b 10) (eqb b 13) t in rw e
+
+pub blank_is : (s : List ℕ) → every line_end s ≡ blank (lines s)
+blank_is [] = refl
+blank_is (b ∷ s) =
+    ⊎_elim
+    (λ t. rw t (blank_is s))
+    (λ f.
+    ⊎_elim
+    (λ t. every_past b s (and_parts (eqb b 13) (at_lf s) t).0 ∙ blank_is s ∙ ap blank (sym (lines_past b s f t)))
+    (λ g. every_other b s f ∙ ap (λ r. eqb b 13 && r) (blank_is s) ∙ sym (blank_onto b (lines s)) ∙ ap blank (sym (lines_kept b s f g)))
     (cases_Bool (eqb b 13 && at_lf s)))
     (cases_Bool (eqb b 10))

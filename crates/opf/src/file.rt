@@ -1,10 +1,9 @@
 // Goes through the lines of a file.
 ghost use Rattle.std.specs.Prelude.{◌≡◌, ◌≤◌, List, [], ◌++◌, length};
-ghost use Rattle.text.specs.Bytes.{every, is_byte};
 ghost use Rattle.opf.specs.Faults.{judge};
 ghost use Rattle.opf.specs.Text.{lines};
 ghost use Rattle.opf.specs.DataLines.{Fields};
-ghost use Rattle.opf.specs.Files.{line_fault, is_end, own_fields, lines_fault, data_lines, draft_of};
+ghost use Rattle.opf.specs.Files.{line_fault, is_end, own_fields, blank, lines_fault, data_lines, draft_of};
 ghost use Rattle.opf.specs.Progress.{HasRead, ReadsLine};
 
 use crate::lines::Lines;
@@ -28,11 +27,11 @@ impl Progress {
     }
 }
 
-// A line of CR alone.
-fn is_blank(line: &[u8]) -> bool
-    ensures { result ≡ every (is_byte 13) line.now }
+// Whether nothing but line ends is left.
+fn only_line_ends(rest: &[u8]) -> bool
+    ensures { result ≡ blank (lines rest.now) }
 {
-    line.iter().all(|b| *b == b'\r')
+    rest.iter().all(|b| matches!(*b, b'\n' | b'\r'))
 }
 
 // Reads the lines one by one, up to the end line; nothing but line ends follows it.
@@ -44,15 +43,17 @@ pub(crate) fn read_lines(text: &[u8]) -> Result<Draft, Fault>
         draft: Draft::empty(),
         place: 1,
     };
-    let mut lines = (1..).zip(Lines(text));
-    // Not a `for`: it would take the lines, of which those after the end line are still to be judged.
-    while let Some((number, line)) = lines.next() {
+    let mut lines = Lines(text);
+    let mut number = 1;
+    // Not a `for`, and numbered without a `zip`: it would take the lines, and what they have left is judged by its bytes.
+    while let Some(line) = lines.next() {
         if progress.take(number, line)? {
-            if lines.all(|(_, line)| is_blank(line)) {
+            if only_line_ends(lines.0) {
                 return Ok(progress.draft);
             }
             return Err(Fault::AfterEnd { line: number });
         }
+        number += 1;
     }
     Err(Fault::NoEnd)
 }
