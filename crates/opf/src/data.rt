@@ -4,7 +4,7 @@ ghost use Rattle.refusal.specs.declared.fault.Fault.TheVariants as fault;
 ghost use Rattle.opf.specs.Faults.{Judges};
 ghost use Rattle.opf.specs.Fields.{field};
 ghost use Rattle.opf.specs.DataLines.{count_fault, counted_fault, counted};
-ghost use Rattle.opf.specs.Lines.{line_fields, done};
+ghost use Rattle.opf.specs.Lines.{line_fields};
 
 use crate::fields::{field_at, field_count};
 use crate::line::DataLine;
@@ -36,14 +36,15 @@ impl DataLine<'_> {
         }
     }
 
-    // At least k fields.
-    pub(crate) fn at_least(&self, k: u32) -> Result<(), Fault>
-        ensures { Judges result (count_fault self.now.number (line_fields self.now) k) done }
+    // How many fields there are: at least k.
+    pub(crate) fn at_least(&self, k: u32) -> Result<u32, Fault>
+        ensures { Judges result (count_fault self.now.number (line_fields self.now) k) (length (line_fields self.now)) }
     {
-        if self.field_count() < k {
+        let n = self.field_count();
+        if n < k {
             return Err(Fault::FieldCount { line: self.number });
         }
-        Ok(())
+        Ok(n)
     }
 
     // Field k as a count within its range.

@@ -89,11 +89,11 @@ pub(crate) fn descent(line: &DataLine) -> Result<DraftDescent, Fault>
 }
 
 // The three numbers of a configuration line, which end one field before its last.
-pub(crate) fn row(line: &DataLine, c: Configuration) -> Result<DraftRow, Fault>
-    requires { configuration_of (line_fields line.now) ≡ Some c }
+pub(crate) fn row(line: &DataLine, last: u32, c: Configuration) -> Result<DraftRow, Fault>
+    requires all { last ≡ length (line_fields line.now) }
+    requires named { configuration_of (line_fields line.now) ≡ Some c }
     ensures { Judges result (first_of (row_faults line.now.number (line_fields line.now))) (row_of (line_fields line.now)) }
 {
-    let last = line.field_count();
     let stall = line.count(last.saturating_sub(3), quantities::STALL_SPEED)?;
     let cd0 = line.count(last.saturating_sub(2), quantities::parasitic_drag(c))?;
     let cd2 = line.count(last.saturating_sub(1), quantities::DRAG)?;

@@ -15,13 +15,13 @@ use refusal::fault::Fault;
 fn take_row(draft: &mut Draft, line: &DataLine) -> Result<(), Fault>
     ensures { Takes result (first_of (configuration_faults line.now.number (filled draft.old) (line_fields line.now))) draft.new (after_line 5 draft.old (line_fields line.now)) }
 {
-    line.at_least(6)?;
+    let last = line.at_least(6)?;
     let unknown = line.word_fault(2);
     let c = Configuration::try_from(line.field(2)).map_err(|_| unknown)?;
     if draft.rows[c.row()].is_some() {
         return Err(unknown);
     }
-    let row = reading::row(line, c)?;
+    let row = reading::row(line, last, c)?;
     draft.fill(c, row);
     Ok(())
 }
