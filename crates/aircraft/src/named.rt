@@ -112,6 +112,7 @@ impl fmt::Display for Configuration {
     ghost output = { λ c. Some (configuration_word c) };
 
     fn fmt<W: fmt::Write>(&self, f: &mut fmt::Formatter<W>) -> fmt::Result {
-        f.write_str(self.word())
+        let word = self.word();
+        f.write_str(word)
     }
 }
