@@ -6,7 +6,7 @@ use sheet::show::AnswerLine;
 use std::fmt::Write;
 use std::io;
 use std::io::{BufRead, BufReader, Read};
-use text::bytes::{cut, without_cr};
+use text::bytes::without_cr;
 
 // The longest form has 58 bytes, and a CR and an LF may follow it. No more is kept, so that memory stays the same for any script.
 const MOST_KEPT: usize = 60;
@@ -20,13 +20,6 @@ fn next_line<'a, R: Read>(
     line: &'a mut Vec<u8>,
 ) -> io::Result<Option<&'a [u8]>> {
     line.clear();
-    // Nearly every line stands whole in the buffer. The reader's own limit is asked only for one that does not: it costs more than a short line.
-    if let Some((front, _)) = cut(input.buffer(), b'\n') {
-        let length = front.len();
-        line.extend_from_slice(&front[..length.min(MOST_KEPT)])?;
-        input.consume(length.saturating_add(1));
-        return Ok(Some(without_cr(line)));
-    }
     input.take(MOST_KEPT as u64).read_until(b'\n', line)?;
     if line.is_empty() {
         return Ok(None);
